@@ -1,2 +1,1 @@
 pub mod Assigning
-pub mod Counting

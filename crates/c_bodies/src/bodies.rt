@@ -5,11 +5,10 @@ ghost use Rattle.c_ast.specs.declared.simples.Simple.{Simple};
 ghost use Rattle.c_typing.specs.BodySites.{maybe_sites, declarator_sites, declarators_sites, declare_sites};
 ghost use Rattle.c_typing.specs.BodySites.{first_sites, part_sites, parts_sites, block_sites, stmt_sites, other_sites};
 ghost use Rattle.c_typing.specs.Scopes.{all_declared, declared, past_declare, past_first, past_part, past_parts};
-ghost use Rattle.c_typing.specs.Scopes.{past_block, past_stmt, past_other, opened, closed};
+ghost use Rattle.c_typing.specs.Scopes.{past_block, past_stmt, past_other, opened, closed, outer};
 ghost use Rattle.c_typing.specs.Sites.{simple_sites, cond_sites, wanted_sites, rhs_sites, want_of_kind};
 ghost use Rattle.c_bodies.specs.inner.Assigning.{assign_sites, free_sites, return_sites};
 ghost use Rattle.c_expressions.specs.Meeting.{met};
-ghost use Rattle.c_scopes.specs.InScope.{outer};
 
 use crate::types::uses_type;
 use c_ast::{Block, Cond, Declarator, Declare, First, Operand, Part, Path, Rhs, Simple, Stmt};

@@ -1,6 +1,6 @@
 -- What is called, one list of names after the other.
 use Rattle.std.proofs.Common.{◌≡◌, ℕ, ◌+◌, ◌<◌, ◌≤◌, List, [], ◌∷◌, ◌++◌, length, map, drop, get_or, refl, sym, ap, ◌∙◌}
-use Rattle.std.proofs.Common.{append_assoc}
+use Rattle.std.proofs.Common.{append_assoc, append-nil}
 use Rattle.std.proofs.lemmas.List.{drop_all}
 use Rattle.fore_base.proofs.ListLemmas.{drop_item}
 use Rattle.c_ast.specs.declared.operands.Call.{Call, out-Call, roll-out-Call}
@@ -48,11 +48,7 @@ module _ (names : List Text) where
   -- all that is called are the numbers of the names, in order
   pub called-all : (found : List ℕ) (xs : List Text) → called names found xs ≡ found ++ numbers_among names xs
   unfolding called
-  called-all found [] = sym (append_none found)
-    where
-      append_none : (ns : List ℕ) → ns ++ [] ≡ ns
-      append_none [] = refl
-      append_none (n ∷ ns) = ap (λ ms. n ∷ ms) (append_none ns)
+  called-all found [] = sym (append-nil found)
   called-all found (x ∷ xs) = called-all (called_one names found x) xs
       ∙ append_assoc found (maybe_number (number_of x names)) (numbers_among names xs)
 

@@ -28,7 +28,7 @@ pub fn is_main(head: &Head) -> bool
 
 impl Functions {
     /// The functions of the items.
-    #[tactic(auto, using(crate::proofs::FunctionLemmas::main_new))]
+    #[tactic(auto, using(c_typing::proofs::Firsts::main_new))]
     pub fn of(alloc: Global, items: &[Item]) -> Mem<Functions>
         ensures names { IfOk result (λ f. f.names ≡ names_of_calls items.now) }
         ensures texts { IfOk result (λ f. f.texts ≡ names_of_calls items.now) }

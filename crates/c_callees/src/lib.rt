@@ -6,7 +6,8 @@
 //! whether that is too much.
 //!
 //! `functions` has the names of the functions in their order, and `bodies` the body of a name and the head of `main`;
-//! `operands` and `statements` go through a body for what it calls, `counting` for how many statements it has.
+//! `operands` and `statements` go through a body for what it calls, `counting` for how many statements it has, and
+//! which is the first behind so many.
 #![tactic(auto)]
 
 mod bodies;
@@ -20,5 +21,6 @@ mod weighing;
 
 pub use bodies::{body_named, main_head};
 pub use calling::{Calls, call_graph, calls_of};
+pub use counting::place_behind;
 pub use functions::is_main;
 pub use weighing::{is_overweight, main_weight, statements_of};

@@ -67,8 +67,9 @@ fn declare_calls(names: &Names, declare: &Declare, found: &mut List<u32>) -> Mem
     ensures { OnOk result (found.new ≡ called names.now found.old (declare_callees declare.now)) }
 {
     match declare {
-        Declare::Pointers { vars, .. } => declarators_calls(names, vars.as_slice(), found),
-        Declare::Datums { vars, .. } => declarators_calls(names, vars.as_slice(), found),
+        Declare::Pointers { vars, .. } | Declare::Datums { vars, .. } => {
+            declarators_calls(names, vars.as_slice(), found)
+        }
     }
 }
 

@@ -42,9 +42,6 @@ module _ (shapes : List Shape) where
   IsOpposed t = (line k a b : ℕ) (s : Store)
       → AreOpposed (gstep shapes (edge line k a (t true) None) s) (gstep shapes (edge line k b (t false) None) s)
 
-  any_link : Link → Type 0
-  any_link l = Unit {0}
-
   link_fans : (line k to : ℕ) (l : Link) → Unit {0} → Unit {0} → IsFan shapes (link_edges line k to l)
   link_fans line k to (One i) g t = one_edge (edge line k to i None) refl
   link_fans line k to (Two i j) g t = choices (edge line k to i (Some 0)) (edge line k to j (Some 1)) refl refl refl

@@ -1,5 +1,5 @@
 -- Where a step leads is a place again, or the exit.
-use Rattle.std.proofs.Common.{◌≡◌, ℕ, zero, suc, List, [], ◌∷◌, refl, ap, subst}
+use Rattle.std.proofs.Common.{ℕ, List, [], ◌∷◌, subst}
 use Rattle.fore_base.specs.Lists.{Every}
 use Rattle.fore_base.proofs.ListLemmas.{every_append, every_parts}
 use Rattle.c_types.specs.declared.program.Act.{Act}
@@ -7,24 +7,13 @@ use Rattle.c_types.specs.declared.program.Act.TheVariants.{SetPtr, SetData, Free
 use Rattle.c_types.specs.declared.program.Act.TheVariants.{Leave as LeaveAct}
 use Rattle.c_types.specs.Control.{Items, Done, Do, Close, If, Loop, Again, DoLoop, DoAgain, Test, Ask, Not, Both}
 use Rattle.c_types.specs.Control.{Either, Enter, Leave, Exit, ◌then◌, ask, round, do_round, open_before, opened}
-use Rattle.c_types.specs.Control.{after_again, from_again, exit_after, from_exit}
+use Rattle.c_types.specs.Control.{after_again, from_again, from_exit}
 use Rattle.c_cfg.specs.Places.{test_places, places}
 use Rattle.c_cfg.specs.Lowering.{followed_by}
-use Rattle.c_cfg.proofs.Opening.{then_then}
+use Rattle.c_types.proofs.Rests.{rest_of, after_kept, from_kept, exit_kept}
+use Rattle.c_types.proofs.Standing.{then_then}
+use Rattle.c_types.proofs.Turns.{then_done}
 use Rattle.c_cfg.proofs.Leaving.{PlaceLeads}
-
-pub then_done : (c : Items) → c then Done ≡ c
-then_done Done = refl
-then_done (Do a m is) = ap (Do a m) (then_done is)
-then_done (Close ps ds m is) = ap (Close ps ds m) (then_done is)
-then_done (If c x y is) = ap (If c x y) (then_done is)
-then_done (Loop c n b is) = ap (Loop c n b) (then_done is)
-then_done (Again c n b is) = ap (Again c n b) (then_done is)
-then_done (DoLoop c b is) = ap (DoLoop c b) (then_done is)
-then_done (DoAgain c b is) = ap (DoAgain c b) (then_done is)
-then_done (Enter vs ws m is) = ap (Enter vs ws m) (then_done is)
-then_done (Leave v vs a m is) = ap (Leave v vs a m) (then_done is)
-then_done (Exit v vs d m is) = ap (Exit v vs d m) (then_done is)
 
 module _ (R : Items → Type 0) where
   -- R at each place of a test, and of items that stand before others
@@ -165,53 +154,33 @@ module _ (R : Items → Type 0) where
   pub each_opened : (c : Items) → R Done → Each c Done → Front (opened c)
   each_opened c d h = each_open c Done Done h tt (d, tt)
 
-  pub each_after : (is : Items) → Each is Done → Each (after_again is) Done
-  each_after Done h = tt
-  each_after (Do a m is) h = each_after is h.1
-  each_after (Close ps ds m is) h = each_after is h.1
-  each_after (If c x y is) h = each_after is h.3
-  each_after (Loop c n b is) h = each_after is h.3
-  each_after (Again c n b is) h = h.3
-  each_after (DoLoop c b is) h = each_after is h.2
-  each_after (DoAgain c b is) h = h.2
-  each_after (Enter vs ws m is) h = each_after is h.1
-  each_after (Leave v vs a m is) h = each_after is h.1
-  each_after (Exit v vs d m is) h = each_after is h.1
-
-  pub each_from : (is : Items) → Each is Done → Each (from_again is) Done
-  each_from Done h = tt
-  each_from (Do a m is) h = each_from is h.1
-  each_from (Close ps ds m is) h = each_from is h.1
-  each_from (If c x y is) h = each_from is h.3
-  each_from (Loop c n b is) h = each_from is h.3
-  each_from (Again c n b is) h = h
-  each_from (DoLoop c b is) h = each_from is h.2
-  each_from (DoAgain c b is) h = h
-  each_from (Enter vs ws m is) h = each_from is h.1
-  each_from (Leave v vs a m is) h = each_from is h.1
-  each_from (Exit v vs d m is) h = each_from is h.1
-
-  each_exit_after : (n : ℕ) (is : Items) → Each is Done → Each (exit_after n is) Done
-  each_exit_after n Done h = tt
-  each_exit_after n (Do a m is) h = each_exit_after n is h.1
-  each_exit_after n (Close ps ds m is) h = each_exit_after n is h.1
-  each_exit_after n (If c x y is) h = each_exit_after n is h.3
-  each_exit_after n (Loop c k b is) h = each_exit_after n is h.3
-  each_exit_after n (Again c k b is) h = each_exit_after n is h.3
-  each_exit_after n (DoLoop c b is) h = each_exit_after n is h.2
-  each_exit_after n (DoAgain c b is) h = each_exit_after n is h.2
-  each_exit_after n (Enter vs ws m is) h = each_exit_after (suc n) is h.1
-  each_exit_after n (Leave v vs a m is) h = each_exit_after n is h.1
-  each_exit_after zero (Exit v vs d m is) h = h
-  each_exit_after (suc n) (Exit v vs d m is) h = each_exit_after n is h.1
-
-  pub each_exit : (is : Items) → Each is Done → Each (from_exit is) Done
-  each_exit is h = each_exit_after 0 is h
-
-  -- The places after each place
-
+  -- R at each place of pending items
   abbrev After : Items → Type 0
   After c = Each c Done
+
+  rest_after : (is : Items) → After is → After (rest_of is)
+  rest_after Done h = tt
+  rest_after (Do a m is) h = h.1
+  rest_after (Close ps ds m is) h = h.1
+  rest_after (If c x y is) h = h.3
+  rest_after (Loop c n b is) h = h.3
+  rest_after (Again c n b is) h = h.3
+  rest_after (DoLoop c b is) h = h.2
+  rest_after (DoAgain c b is) h = h.2
+  rest_after (Enter vs ws m is) h = h.1
+  rest_after (Leave v vs a m is) h = h.1
+  rest_after (Exit v vs d m is) h = h.1
+
+  pub each_after : (is : Items) → Each is Done → Each (after_again is) Done
+  each_after = after_kept After rest_after
+
+  pub each_from : (is : Items) → Each is Done → Each (from_again is) Done
+  each_from = from_kept After rest_after
+
+  pub each_exit : (is : Items) → Each is Done → Each (from_exit is) Done
+  each_exit = exit_kept After rest_after
+
+  -- The places after each place
 
   tests_after : (c : Test) (x y r : Items) → EachTest c x y r → Each x r → Each y r → Each r Done
       → Every After (test_places c x y r)

@@ -1,7 +1,6 @@
 pub mod Agree
 pub mod AlikeStores
 pub mod Calls
-pub mod Closing
 pub mod Fanning
 pub mod Filling
 pub mod FreeOfLoops
@@ -11,7 +10,6 @@ pub mod LeaksAlike
 pub mod Leaving
 pub mod LikeSteps
 pub mod Moving
-pub mod Opening
 pub mod PlainLinks
 pub mod Properly
 pub mod Ranged

@@ -1,5 +1,5 @@
 -- Items whose numbers are in range, and the places among them.
-use Rattle.std.proofs.Common.{◌≡◌, ◌<◌, ℕ, zero, suc, Bool, true, false, List, [], ◌∷◌, length, refl, ap, ◌∙◌}
+use Rattle.std.proofs.Common.{◌≡◌, ◌<◌, ℕ, Bool, true, false, List, [], ◌∷◌, length, refl, ap, ◌∙◌}
 use Rattle.std.specs.Prelude.{nat_lt, if◌then◌else◌}
 use Rattle.std.proofs.lemmas.Bool.{and_parts, ltb-true}
 use Rattle.fore_base.specs.Lists.{Every}
@@ -7,9 +7,10 @@ use Rattle.fore_base.proofs.ListLemmas.{every_append}
 use Rattle.c_types.specs.Program.{Program, all_below, atom_typed}
 use Rattle.c_types.specs.Control.{Test, Ask, Not, Both, Either, Items, Done, Do, Close, If, Loop, Again, DoLoop}
 use Rattle.c_types.specs.Control.{DoAgain, Enter, Leave, Exit, ◌then◌, round, do_round, insert, merged, closed_ptrs}
-use Rattle.c_types.specs.Control.{closed_datums, ask, open_before, opened, after_again, from_again, exit_after}
+use Rattle.c_types.specs.Control.{closed_datums, ask, open_before, opened, after_again, from_again}
 use Rattle.c_types.specs.Control.{from_exit}
 use Rattle.c_types.specs.Fits.{ActFits, EnterFits, LeaveFits, ExitFits}
+use Rattle.c_types.proofs.Rests.{rest_of, after_kept, from_kept, exit_kept}
 use Rattle.c_types.proofs.Turns.{then_done}
 use Rattle.c_cfg.specs.Places.{test_places, places, remark_test, remark}
 use Rattle.c_cfg.proofs.Calls.OpenCalls.{open_vars, Closed, closed_then, open_ask, closed_unmarked}
@@ -175,48 +176,27 @@ module _ (p : Program) where
 
   -- `break`, `continue` and `return`
 
+  rest_ranged : (is : Items) → Ranged is → Ranged (rest_of is)
+  rest_ranged Done h = tt
+  rest_ranged (Do a m is) h = h.1
+  rest_ranged (Close ps ds m is) h = h.2
+  rest_ranged (If c x y is) h = h.3
+  rest_ranged (Loop c n b is) h = h.3
+  rest_ranged (Again c n b is) h = h.3
+  rest_ranged (DoLoop c b is) h = h.2
+  rest_ranged (DoAgain c b is) h = h.2
+  rest_ranged (Enter vs ws m is) h = h.1
+  rest_ranged (Leave v vs a m is) h = h.1
+  rest_ranged (Exit v vs d m is) h = h.1
+
   pub after_ranged : (is : Items) → Ranged is → Ranged (after_again is)
-  after_ranged Done h = tt
-  after_ranged (Do a m is) h = after_ranged is h.1
-  after_ranged (Close ps ds m is) h = after_ranged is h.2
-  after_ranged (If c x y is) h = after_ranged is h.3
-  after_ranged (Loop c n b is) h = after_ranged is h.3
-  after_ranged (Again c n b is) h = h.3
-  after_ranged (DoLoop c b is) h = after_ranged is h.2
-  after_ranged (DoAgain c b is) h = h.2
-  after_ranged (Enter vs ws m is) h = after_ranged is h.1
-  after_ranged (Leave v vs a m is) h = after_ranged is h.1
-  after_ranged (Exit v vs d m is) h = after_ranged is h.1
+  after_ranged = after_kept Ranged rest_ranged
 
   pub from_ranged : (is : Items) → Ranged is → Ranged (from_again is)
-  from_ranged Done h = tt
-  from_ranged (Do a m is) h = from_ranged is h.1
-  from_ranged (Close ps ds m is) h = from_ranged is h.2
-  from_ranged (If c x y is) h = from_ranged is h.3
-  from_ranged (Loop c n b is) h = from_ranged is h.3
-  from_ranged (Again c n b is) h = h
-  from_ranged (DoLoop c b is) h = from_ranged is h.2
-  from_ranged (DoAgain c b is) h = h
-  from_ranged (Enter vs ws m is) h = from_ranged is h.1
-  from_ranged (Leave v vs a m is) h = from_ranged is h.1
-  from_ranged (Exit v vs d m is) h = from_ranged is h.1
-
-  exit_after_ranged : (n : ℕ) (is : Items) → Ranged is → Ranged (exit_after n is)
-  exit_after_ranged n Done h = tt
-  exit_after_ranged n (Do a m is) h = exit_after_ranged n is h.1
-  exit_after_ranged n (Close ps ds m is) h = exit_after_ranged n is h.2
-  exit_after_ranged n (If c x y is) h = exit_after_ranged n is h.3
-  exit_after_ranged n (Loop c k b is) h = exit_after_ranged n is h.3
-  exit_after_ranged n (Again c k b is) h = exit_after_ranged n is h.3
-  exit_after_ranged n (DoLoop c b is) h = exit_after_ranged n is h.2
-  exit_after_ranged n (DoAgain c b is) h = exit_after_ranged n is h.2
-  exit_after_ranged n (Enter vs ws m is) h = exit_after_ranged (suc n) is h.1
-  exit_after_ranged n (Leave v vs a m is) h = exit_after_ranged n is h.1
-  exit_after_ranged zero (Exit v vs d m is) h = h
-  exit_after_ranged (suc n) (Exit v vs d m is) h = exit_after_ranged n is h.1
+  from_ranged = from_kept Ranged rest_ranged
 
   pub exit_ranged : (is : Items) → Ranged is → Ranged (from_exit is)
-  exit_ranged is h = exit_after_ranged 0 is h
+  exit_ranged = exit_kept Ranged rest_ranged
 
   -- Opening begins and ends no call.
 

@@ -24,7 +24,7 @@ use Rattle.c_types.specs.Program.{Program, path_target, data_typed, data_op_type
 use Rattle.c_types.specs.Program.{value_typed, dest_typed, to_typed, is_typed}
 use Rattle.c_types.specs.Control.{ptr_vars, datum_vars, with_result}
 use Rattle.c_types.specs.Fits.{EnterFits, LeaveFits, ExitFits}
-use Rattle.c_types.proofs.ItemsTyped.{has_vars_known}
+use Rattle.c_types.proofs.WellTyped.{has_vars_known}
 use Rattle.c_cfg.specs.declared.graph.Instr.TheVariants.{LoadPtr, StorePtr}
 use Rattle.c_cfg.specs.Links.{Link, loads, used_before, give_path, give_datum, give_links, given_used, give_each}
 use Rattle.c_cfg.specs.Links.{one_used, each_used, enter_row, die, leave_row, hand_ptr, hand_datum, hand_links}

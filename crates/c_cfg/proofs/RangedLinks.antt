@@ -26,7 +26,7 @@ use Rattle.c_types.specs.Steps.{below}
 use Rattle.c_types.specs.Fits.{var_targets, ActFits}
 use Rattle.c_types.proofs.CellsFit.{IsAt}
 use Rattle.c_types.proofs.Fitting.{Leads, PathLeads, path_leads, path_below}
-use Rattle.c_types.proofs.ItemsTyped.{has_shapes_typed, has_vars_typed}
+use Rattle.c_types.proofs.WellTyped.{has_shapes_typed, has_vars_typed}
 use Rattle.c_cfg.specs.declared.graph.Instr.{Instr}
 use Rattle.c_cfg.specs.declared.graph.Instr.TheVariants.{Kill}
 use Rattle.c_cfg.specs.Graphs.{may_have}

@@ -1,6 +1,5 @@
 -- Worked values, which guard the definitions in specs/: each is worked out by hand from the table of edges and the text
--- beside it, and each case
--- of a definition is met by a row that fails if the case is wrong.
+-- beside it, and each case of a definition is met by a row that fails if the case is wrong.
 mod Forms
 mod Agreeing
 mod OneEdge

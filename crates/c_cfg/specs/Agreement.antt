@@ -1,6 +1,5 @@
 -- When a program and a control graph agree: on any choices they meet the same faults in the same lines, both end, or
--- both want a choice, and the
--- program does so after no more steps than the graph after edges.
+-- both want a choice, and the program does so after no more steps than the graph after edges.
 use Rattle.std.specs.Prelude.{◌≡◌, ◌≤◌, ℕ, List}
 use Rattle.fore_base.specs.declared.fault.Fault.{Fault as Kind}
 use Rattle.c_types.specs.declared.mode.MallocMode.{MallocMode}

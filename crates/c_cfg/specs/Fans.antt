@@ -1,6 +1,6 @@
 -- The edges that leave one location: none, one without a choice, two for the choices 0 and 1, or the two of a test. So
--- a list of edges can be read as a
--- run: where an edge goes somewhere, no other edge of its location goes elsewhere on its choice.
+-- a list of edges can be read as a run: where an edge goes somewhere, no other edge of its location goes elsewhere on
+-- its choice.
 use Rattle.std.specs.Prelude.{◌≡◌, ℕ, ◌+◌, List, [], ◌∷◌, ◌++◌, Option, Some, None}
 use Rattle.fore_base.specs.declared.fault.Fault.{Fault as Kind}
 use Rattle.fore_base.specs.declared.shape.Shape.{Shape}

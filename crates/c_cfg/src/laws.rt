@@ -79,9 +79,8 @@ pub fn choices_stand_at_chooses(program: &Typed, graph: &Graph)
 }
 
 /// The edges that leave a location of a program's graph are none, one without a choice, two for the choices 0 and 1 in
-/// this order, or the two of a
-/// test, of which on each store one is not passed or both meet one fault. So on each store at most one of them of each
-/// choice is passed.
+/// this order, or the two of a test, of which on each store one is not passed or both meet one fault. So on each store
+/// at most one of them of each choice is passed.
 pub fn edges_fan_out(program: &Typed, mode: MallocMode, graph: &Graph)
     ensures fans { LowerOf program.now mode graph.now → (location : ℕ)
         → IsFan graph.now.shapes.structs (out_of graph.now.edges location) }
@@ -104,8 +103,8 @@ pub fn edges_make_runs(program: &Typed, mode: MallocMode, graph: &Graph)
 }
 
 /// An edge does the same to two proper stores that are alike: both meet one fault, or pass to alike stores, or stop, or
-/// are not passed; and it keeps a
-/// store proper. A run begins with a proper store, and each store without cells and set variables is alike to it.
+/// are not passed; and it keeps a store proper. A run begins with a proper store, and each store without cells and set
+/// variables is alike to it.
 pub fn alike_stores_step_alike(graph: &Graph)
     ensures alike { (edge : Edge) (s t : Store) → IsProper s → IsProper t → IsAlike s t
         → LikePass (gstep graph.now.shapes.structs edge s) (gstep graph.now.shapes.structs edge t) }

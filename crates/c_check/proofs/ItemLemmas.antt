@@ -1,52 +1,37 @@
 -- What each kind of place among the items adds to the first fault so far.
-use Rattle.std.proofs.Common.{◌≡◌, ℕ, Bool, true, not, ◌&&◌, ◌||◌, nat_eq, List, Option, ap}
-use Rattle.fore_base.specs.declared.limits.TheConstants.{STRUCTS, FIELDS, ENUMERATORS}
+use Rattle.std.proofs.Common.{◌≡◌, ℕ, Bool, true, not, ◌&&◌, ◌||◌, List, Option, ap}
 use Rattle.fore_base.specs.declared.place.Place.{Place}
 use Rattle.c_ast.specs.declared.items.Head.{Head}
 use Rattle.c_ast.specs.declared.operands.Name.{Name}
 use Rattle.c_typing.specs.Functions.{is_right_prototype}
 use Rattle.c_typing.specs.Globals.{Globals}
 use Rattle.c_typing.specs.Profile.{given, is_main, is_main_head}
-use Rattle.c_typing.specs.Sites.{Struct, Enum, Value, Member, Function, Parameter, Defines, Declares, Functions}
-use Rattle.c_typing.specs.Sites.{Globally, Ends, Overflows}
+use Rattle.c_typing.specs.Sites.{Defines, Declares}
+use Rattle.c_typing.specs.declared.meaning.Family.{Family}
+use Rattle.c_typing.specs.declared.meaning.Family.TheVariants.{Struct, Enum, Value, Member, Variable}
+use Rattle.c_typing.specs.declared.meaning.Family.TheVariants.{Function, Parameter}
+use Rattle.c_typing.specs.Sites.{Functions, Globally, Ends, Overflows}
 use Rattle.c_typing.specs.Texts.{Text, has}
 use Rattle.c_typing.proofs.Breaching as breaching
 use Rattle.c_typing.proofs.Breaching.{fault_at}
 use Rattle.c_typing.specs.declared.fault.TypeFault.{TypeFault}
 use Rattle.c_typing.specs.declared.fault.TypeFault.TheVariants.{Rule, Limit}
-use Rattle.c_typing.specs.declared.limits.TheConstants.{FUNCTIONS}
+use Rattle.c_check.specs.inner.Items.{counted}
 use Rattle.c_expressions.specs.First.{first_from}
 use Rattle.c_expressions.specs.Meeting.{noted, noted_when}
 use Rattle.c_expressions.proofs.MeetingLemmas.{one, two}
 
 module _ (g : Globals) (found : Option TypeFault) where
-  pub noted-Struct : (n : Name) (earlier : List Text) (count : ℕ) →
-      noted g found (Defines Struct n earlier count)
-      ≡ noted_when (nat_eq count STRUCTS) (Limit 2 n.at) (noted_when (has n.text earlier) (Rule 5 n.at) found)
-  noted-Struct n earlier count = two g found _ _ _ _ _ (breaching.at-Struct g n earlier count)
-
-  pub noted-Member : (n : Name) (earlier : List Text) (count : ℕ) →
-      noted g found (Defines Member n earlier count)
-      ≡ noted_when (nat_eq count FIELDS) (Limit 3 n.at) (noted_when (has n.text earlier) (Rule 5 n.at) found)
-  noted-Member n earlier count = two g found _ _ _ _ _ (breaching.at-Member g n earlier count)
-
-  pub noted-Value : (n : Name) (earlier : List Text) (count : ℕ) →
-      noted g found (Defines Value n earlier count)
-      ≡ noted_when (nat_eq count ENUMERATORS) (Limit 5 n.at) (noted_when (has n.text earlier) (Rule 5 n.at) found)
-  noted-Value n earlier count = two g found _ _ _ _ _ (breaching.at-Value g n earlier count)
-
-  pub noted-Enum : (n : Name) (earlier : List Text) (count : ℕ) → noted g found (Defines Enum n earlier count)
-      ≡ noted_when (has n.text earlier) (Rule 5 n.at) found
-  noted-Enum n earlier count = one g found _ _ _ (breaching.at-Enum g n earlier count)
-
-  pub noted-Function : (n : Name) (earlier : List Text) (count : ℕ) →
-      noted g found (Defines Function n earlier count)
-      ≡ noted_when (nat_eq count FUNCTIONS) (Limit 10 n.at) (noted_when (has n.text earlier) (Rule 5 n.at) found)
-  noted-Function n earlier count = two g found _ _ _ _ _ (breaching.at-Function g n earlier count)
-
-  pub noted-Parameter : (n : Name) (earlier : List Text) (count : ℕ) → noted g found (Defines Parameter n earlier count)
-      ≡ noted_when (has n.text earlier) (Rule 5 n.at) found
-  noted-Parameter n earlier count = one g found _ _ _ (breaching.at-Parameter g n earlier count)
+  pub noted-Defines : (family : Family) (n : Name) (earlier : List Text) (count : ℕ) →
+      noted g found (Defines family n earlier count)
+      ≡ counted family count n.at (noted_when (has n.text earlier) (Rule 5 n.at) found)
+  noted-Defines Struct n earlier count = two g found _ _ _ _ _ (breaching.at-Struct g n earlier count)
+  noted-Defines Enum n earlier count = one g found _ _ _ (breaching.at-Enum g n earlier count)
+  noted-Defines Value n earlier count = two g found _ _ _ _ _ (breaching.at-Value g n earlier count)
+  noted-Defines Member n earlier count = two g found _ _ _ _ _ (breaching.at-Member g n earlier count)
+  noted-Defines Variable n earlier count = two g found _ _ _ _ _ (breaching.at-Variable g n earlier count)
+  noted-Defines Function n earlier count = two g found _ _ _ _ _ (breaching.at-Function g n earlier count)
+  noted-Defines Parameter n earlier count = one g found _ _ _ (breaching.at-Parameter g n earlier count)
 
   pub noted-Declares : (h : Head) → noted g found (Declares h)
       ≡ noted_when (not (is_right_prototype g h)) (Rule 15 h.name.at) found
@@ -69,12 +54,7 @@ module _ (g : Globals) (found : Option TypeFault) where
   noted-Overflows over = ap (first_from found) (breaching.at-Overflows g over)
 
 pub ruleset sites = (
-  noted-Struct,
-  noted-Member,
-  noted-Value,
-  noted-Enum,
-  noted-Function,
-  noted-Parameter,
+  noted-Defines,
   noted-Declares,
   noted-Functions,
   noted-Globally,

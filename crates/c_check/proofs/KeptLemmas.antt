@@ -1,8 +1,9 @@
 -- To keep each name once, with how many definitions there were, is to keep them all.
 use Rattle.std.proofs.Common.{◌≡◌, ℕ, suc, ◌+◌, Bool, true, false, ◌||◌, cond, List, [], ◌∷◌, ◌++◌, map}
-use Rattle.std.proofs.Common.{length, Option, Some, None, refl, sym, ap, subst, ◌∙◌, arith, nat_eq}
+use Rattle.std.proofs.Common.{length, Option, Some, None, append-nil, append_assoc, refl, sym, ap, subst, ◌∙◌, arith}
+use Rattle.std.proofs.Math.Bool.{or-false, or_assoc}
+use Rattle.std.proofs.lemmas.List.{length-append, length-map}
 use Rattle.std.specs.Cmp.Lexicographic.{bytes_decides}
-use Rattle.fore_base.specs.declared.limits.TheConstants.{STRUCTS, FIELDS, ENUMERATORS}
 use Rattle.c_ast.specs.declared.items.Field.{Field}
 use Rattle.c_ast.specs.declared.items.Head.{Head}
 use Rattle.c_ast.specs.declared.items.Item.{Item}
@@ -12,25 +13,25 @@ use Rattle.c_ast.specs.declared.items.Unit as whole
 use Rattle.c_ast.specs.declared.operands.Name.{Name}
 use Rattle.c_ast.specs.declared.statements.Block.{Block}
 use Rattle.c_typing.specs.Globals.{Globals, is_main, params_of, text_of}
-use Rattle.c_typing.specs.ItemSites.{Seen, nothing_seen, structs_seen, seen_after, all_seen, member_sites}
-use Rattle.c_typing.specs.ItemSites.{field_type_sites, names_of, fields_sites, value_sites, struct_sites, item_sites}
+use Rattle.c_typing.specs.ItemSites.{Seen, nothing_seen, structs_seen, seen_after, all_seen, defined_sites}
+use Rattle.c_typing.specs.ItemSites.{field_type_sites, names_of, fields_sites, struct_sites, item_sites}
 use Rattle.c_typing.specs.ItemSites.{items_sites, gives_sites, param_sites, proto_params_sites, proto_sites, head_sites}
 use Rattle.c_typing.specs.ItemSites.{body_sites, named_sites, unit_sites}
 use Rattle.c_typing.specs.Scopes.{Scope, empty_scope, param_name, past_head, past_item}
-use Rattle.c_typing.specs.Sites.{Struct, Enum, Value, Member, Function, Parameter, Site, Declares, Defines, Ends}
-use Rattle.c_typing.specs.Sites.{Overflows}
+use Rattle.c_typing.specs.Sites.{Site, Declares, Defines}
+use Rattle.c_typing.specs.declared.meaning.Family.{Family}
+use Rattle.c_typing.specs.declared.meaning.Family.TheVariants.{Struct, Enum, Value, Member, Function, Parameter}
+use Rattle.c_typing.specs.Sites.{Ends, Overflows}
 use Rattle.c_typing.specs.Texts.{Text, has, same}
 use Rattle.c_typing.specs.declared.fault.TypeFault.{TypeFault}
-use Rattle.c_typing.specs.declared.fault.TypeFault.TheVariants.{Rule, Limit}
-use Rattle.c_typing.specs.declared.limits.TheConstants.{FUNCTIONS}
+use Rattle.c_typing.specs.declared.fault.TypeFault.TheVariants.{Rule}
 use Rattle.c_check.specs.declared.definitions.Seen as kept
-use Rattle.c_check.specs.inner.Items.{with_name, with_names, kept_member_sites, kept_fields_sites, kept_value_sites}
+use Rattle.c_check.specs.inner.Items.{counted, with_name, with_names, kept_name_sites, kept_fields_sites}
 use Rattle.c_check.specs.inner.Items.{kept_struct_sites, kept_structs, kept_after, kept_item_sites, kept_items_sites}
 use Rattle.c_check.specs.inner.Items.{is_main_item, any_main, nothing_kept, kept_params_sites, kept_proto_sites}
 use Rattle.c_check.specs.inner.Items.{kept_function_sites, kept_head_sites, kept_named_sites}
 use Rattle.c_expressions.specs.Meeting.{met, noted, noted_when}
-use Rattle.c_check.proofs.ItemLemmas.{noted-Struct, noted-Member, noted-Value, noted-Enum, noted-Function}
-use Rattle.c_check.proofs.ItemLemmas.{noted-Parameter}
+use Rattle.c_check.proofs.ItemLemmas.{noted-Defines}
 use Rattle.c_expressions.proofs.MeetingLemmas.{met-append, met-cons, met-one}
 
 -- the same names are there
@@ -39,18 +40,11 @@ record Alike (names earlier : List Text) : Type 0 where
 
 has_append : (x : Text) (ys zs : List Text) → has x (ys ++ zs) ≡ (has x ys || has x zs)
 has_append x [] zs = refl
-has_append x (y ∷ ys) zs = ap (λ b. same x y || b) (has_append x ys zs) ∙ or_or (same x y) (has x ys) (has x zs)
-  where
-    or_or : (a b c : Bool) → (a || (b || c)) ≡ ((a || b) || c)
-    or_or true b c = refl
-    or_or false b c = refl
+has_append x (y ∷ ys) zs = ap (λ b. same x y || b) (has_append x ys zs)
+    ∙ sym (or_assoc (same x y) (has x ys) (has x zs))
 
 has_one : (x y : Text) → has x (y ∷ []) ≡ same x y
-has_one x y = or_false (same x y)
-  where
-    or_false : (a : Bool) → (a || false) ≡ a
-    or_false true = refl
-    or_false false = refl
+has_one x y = or-false (same x y)
 
 has_with_name : (x y : Text) (names : List Text) → has x (with_name names y) ≡ (has x names || same x y)
 has_with_name x y names = by (has y names) refl
@@ -71,29 +65,19 @@ alike_more names earlier y h = record {
       ∙ ap (λ b. has x earlier || b) (sym (has_one x y)) ∙ sym (has_append x earlier (y ∷ []));
 }
 
-append_one : (xs : List Text) (y : Text) (zs : List Text) → (xs ++ y ∷ []) ++ zs ≡ xs ++ (y ∷ zs)
-append_one [] y zs = refl
-append_one (x ∷ xs) y zs = ap (λ ws. x ∷ ws) (append_one xs y zs)
-
-append_none : (xs : List Text) → xs ++ [] ≡ xs
-append_none [] = refl
-append_none (x ∷ xs) = ap (λ ys. x ∷ ys) (append_none xs)
-
 alike_names : (names earlier : List Text) (ns : List Name) → Alike names earlier
     → Alike (with_names names ns) (earlier ++ map text_of ns)
-alike_names names earlier [] h = rw (append_none earlier) h
+alike_names names earlier [] h = rw (append-nil earlier) h
 alike_names names earlier (n ∷ ns) h =
-    rw (← append_one earlier n.text (map text_of ns))
-    (alike_names (with_name names n.text) (earlier ++ n.text ∷ []) ns (alike_more names earlier n.text h))
+    let e : (earlier ++ n.text ∷ []) ++ map text_of ns ≡ earlier ++ (n.text ∷ map text_of ns) =
+    append_assoc earlier (n.text ∷ []) (map text_of ns) in
+    rw (← e) (alike_names (with_name names n.text) (earlier ++ n.text ∷ []) ns (alike_more names earlier n.text h))
 
 length_one : (xs : List Text) (y : Text) → length (xs ++ y ∷ []) ≡ length xs + 1
-length_one [] y = refl
-length_one (x ∷ xs) y = omega (arith, length_one xs y)
+length_one xs y = length-append xs (y ∷ [])
 
 length_names : (xs : List Text) (ns : List Name) → length (xs ++ map text_of ns) ≡ length xs + length ns
-length_names [] [] = refl
-length_names [] (n ∷ ns) = omega (arith, length_names [] ns)
-length_names (x ∷ xs) ns = omega (arith, length_names xs ns)
+length_names xs ns = length-append xs (map text_of ns) ∙ ap (λ n. length xs + n) (length-map ns text_of)
 
 -- what is kept is what was seen
 record Keeps (k : kept.Seen) (s : Seen) : Type 0 where
@@ -104,20 +88,12 @@ record Keeps (k : kept.Seen) (s : Seen) : Type 0 where
   functions : Alike k.functions s.functions
   function_count : k.function_count ≡ length s.functions
 
-or_or : (a b c : Bool) → (a || (b || c)) ≡ ((a || b) || c)
-or_or true b c = refl
-or_or false b c = refl
-
-or_false : (a : Bool) → (a || false) ≡ a
-or_false true = refl
-or_false false = refl
-
 main_after : (i : Item) (main : Bool) (s : Seen) → main ≡ s.main → (main || is_main_item i) ≡ (seen_after s i).main
-main_after (item.Struct at name fields) main s e = or_false main ∙ e
-main_after (item.Enum at name values) main s e = or_false main ∙ e
-main_after (item.Proto outer head) main s e = or_false main ∙ e
+main_after (item.Struct at name fields) main s e = or-false main ∙ e
+main_after (item.Enum at name values) main s e = or-false main ∙ e
+main_after (item.Proto outer head) main s e = or-false main ∙ e
 main_after (item.Function head body) main s e = ap (λ b. b || is_main head) e
-main_after (item.Declare d) main s e = or_false main ∙ e
+main_after (item.Declare d) main s e = or-false main ∙ e
 
 struct_keeps : (name : Name) (fields : Option (List Field)) (k : kept.Seen) (s : Seen) → Alike k.structs s.structs
     → k.count ≡ length s.structs →
@@ -197,8 +173,8 @@ nothing_keeps =
     }
 
 main_seen : (is : List Item) (main : Bool) (s : Seen) → main ≡ s.main → (main || any_main is) ≡ (all_seen s is).main
-main_seen [] main s e = or_false main ∙ e
-main_seen (i ∷ is) main s e = or_or main (is_main_item i) (any_main is)
+main_seen [] main s e = or-false main ∙ e
+main_seen (i ∷ is) main s e = sym (or_assoc main (is_main_item i) (any_main is))
     ∙ main_seen is (main || is_main_item i) (seen_after s i) (main_after i main s e)
 
 -- whether one of the items is a main
@@ -206,36 +182,20 @@ pub any_seen : (is : List Item) → any_main is ≡ (all_seen nothing_seen is).m
 any_seen is = main_seen is false nothing_seen refl
 
 module _ (g : Globals) where
-  member_alike : (found : Option TypeFault) (n : Name) (names earlier : List Text) (count : ℕ) → has n.text names
-      ≡ has n.text earlier →
-      noted g found (Defines Member n names count) ≡ noted g found (Defines Member n earlier count)
-  member_alike found n names earlier count h =
-      noted-Member g found n names count
-      ∙ ap (λ b. noted_when (nat_eq count FIELDS) (Limit 3 n.at) (noted_when b (Rule 5 n.at) found)) h
-      ∙ sym (noted-Member g found n earlier count)
+  name_alike : (family : Family) (found : Option TypeFault) (n : Name) (names earlier : List Text) (count more : ℕ)
+      → has n.text names ≡ has n.text earlier → count ≡ more →
+      noted g found (Defines family n names count) ≡ noted g found (Defines family n earlier more)
+  name_alike family found n names earlier count more h e =
+      noted-Defines g found family n names count
+      ∙ ap (λ b. counted family count n.at (noted_when b (Rule 5 n.at) found)) h
+      ∙ ap (λ k. counted family k n.at (noted_when (has n.text earlier) (Rule 5 n.at) found)) e
+      ∙ sym (noted-Defines g found family n earlier more)
 
-  value_alike : (found : Option TypeFault) (n : Name) (names earlier : List Text) (count : ℕ) → has n.text names
-      ≡ has n.text earlier →
-      noted g found (Defines Value n names count) ≡ noted g found (Defines Value n earlier count)
-  value_alike found n names earlier count h =
-      noted-Value g found n names count
-      ∙ ap (λ b. noted_when (nat_eq count ENUMERATORS) (Limit 5 n.at) (noted_when b (Rule 5 n.at) found)) h
-      ∙ sym (noted-Value g found n earlier count)
-
-  struct_alike : (found : Option TypeFault) (n : Name) (names earlier : List Text) (count : ℕ) → has n.text names
-      ≡ has n.text earlier →
-      noted g found (Defines Struct n names count) ≡ noted g found (Defines Struct n earlier count)
-  struct_alike found n names earlier count h =
-      noted-Struct g found n names count
-      ∙ ap (λ b. noted_when (nat_eq count STRUCTS) (Limit 2 n.at) (noted_when b (Rule 5 n.at) found)) h
-      ∙ sym (noted-Struct g found n earlier count)
-
-  enum_alike : (found : Option TypeFault) (n : Name) (names earlier : List Text) (count more : ℕ) → has n.text names
-      ≡ has n.text earlier →
-      noted g found (Defines Enum n names count) ≡ noted g found (Defines Enum n earlier more)
-  enum_alike found n names earlier count more h =
-      noted-Enum g found n names count ∙ ap (λ b. noted_when b (Rule 5 n.at) found) h
-      ∙ sym (noted-Enum g found n earlier more)
+  -- enumerations have no limit
+  enum_alike : (found : Option TypeFault) (n : Name) (earlier : List Text) (count more : ℕ) →
+      noted g found (Defines Enum n earlier count) ≡ noted g found (Defines Enum n earlier more)
+  enum_alike found n earlier count more =
+      noted-Defines g found Enum n earlier count ∙ sym (noted-Defines g found Enum n earlier more)
 
   -- one site that is alike, and then others that are
   next : (found : Option TypeFault) (s t : Site) (ss ts : List Site) → noted g found s ≡ noted g found t
@@ -251,16 +211,14 @@ module _ (g : Globals) where
   onward found ss ts us vs here rest = met-append g found ss us ∙ ap (λ o. met g o us) here ∙ rest
       ∙ sym (met-append g found ts vs)
 
-  members_alike : (ns : List Name) (found : Option TypeFault) (names earlier : List Text) (count : ℕ)
-      → Alike names earlier → count ≡ length earlier →
-      met g found (kept_member_sites names count ns) ≡ met g found (member_sites earlier ns)
-  members_alike [] found names earlier count h e = refl
-  members_alike (n ∷ ns) found names earlier count h e =
-      next found _ _ _ _
-      (member_alike found n names earlier count (h.same_names n.text)
-      ∙ ap (λ k. noted g found (Defines Member n earlier k)) e)
-      (members_alike ns _ (with_name names n.text) (earlier ++ n.text ∷ []) (count + 1)
-      (alike_more names earlier n.text h) (omega (arith, length_one earlier n.text, e)))
+  names_alike : (family : Family) (ns : List Name) (found : Option TypeFault) (names earlier : List Text)
+      (count more : ℕ) → Alike names earlier → count ≡ more →
+      met g found (kept_name_sites family names count ns) ≡ met g found (defined_sites family earlier more ns)
+  names_alike family [] found names earlier count more h e = refl
+  names_alike family (n ∷ ns) found names earlier count more h e =
+      next found _ _ _ _ (name_alike family found n names earlier count more (h.same_names n.text) e)
+      (names_alike family ns _ (with_name names n.text) (earlier ++ n.text ∷ []) (count + 1) (suc more)
+      (alike_more names earlier n.text h) (omega (arith, e)))
 
   fields_alike : (fs : List Field) (found : Option TypeFault) (names earlier : List Text) (count : ℕ)
       → Alike names earlier → count ≡ length earlier →
@@ -269,21 +227,10 @@ module _ (g : Globals) where
   fields_alike (f ∷ fs) found names earlier count h e =
       onward found _ _ _ _
       (onward found (field_type_sites f) (field_type_sites f) _ _ refl
-      (members_alike (names_of f) _ names earlier count h e))
+      (names_alike Member (names_of f) _ names earlier count (length earlier) h e))
       (fields_alike fs _ (with_names names (names_of f)) (earlier ++ map text_of (names_of f))
       (count + length (names_of f)) (alike_names names earlier (names_of f) h)
       (omega (arith, length_names earlier (names_of f), e)))
-
-  values_alike : (ns : List Name) (found : Option TypeFault) (names earlier : List Text) (count more : ℕ)
-      → Alike names earlier → count ≡ more →
-      met g found (kept_value_sites names count ns) ≡ met g found (value_sites earlier more ns)
-  values_alike [] found names earlier count more h e = refl
-  values_alike (n ∷ ns) found names earlier count more h e =
-      next found _ _ _ _
-      (value_alike found n names earlier count (h.same_names n.text)
-      ∙ ap (λ k. noted g found (Defines Value n earlier k)) e)
-      (values_alike ns _ (with_name names n.text) (earlier ++ n.text ∷ []) (count + 1) (suc more)
-      (alike_more names earlier n.text h) (omega (arith, e)))
 
   structs_alike : (found : Option TypeFault) (k : kept.Seen) (s : Seen) (name : Name) (fields : Option (List Field))
       → Alike k.structs s.structs → k.count ≡ length s.structs →
@@ -291,16 +238,8 @@ module _ (g : Globals) where
   structs_alike found k s name None h e = refl
   structs_alike found k s name (Some fields) h e =
       next found _ _ _ _
-      (struct_alike found name k.structs s.structs k.count (h.same_names name.text)
-      ∙ ap (λ n. noted g found (Defines Struct name s.structs n)) e)
+      (name_alike Struct found name k.structs s.structs k.count (length s.structs) (h.same_names name.text) e)
       (fields_alike fields _ [] [] 0 (record { same_names = λ x. refl }) refl)
-
-  param_alike : (found : Option TypeFault) (n : Name) (names earlier : List Text) → has n.text names
-      ≡ has n.text earlier →
-      noted g found (Defines Parameter n names 0) ≡ noted g found (Defines Parameter n earlier 0)
-  param_alike found n names earlier h =
-      noted-Parameter g found n names 0 ∙ ap (λ b. noted_when b (Rule 5 n.at) found) h
-      ∙ sym (noted-Parameter g found n earlier 0)
 
   params_alike : (ps : List Param) (found : Option TypeFault) (names earlier : List Text) → Alike names earlier →
       met g found (kept_params_sites names ps) ≡ met g found (proto_params_sites earlier ps)
@@ -308,7 +247,8 @@ module _ (g : Globals) where
   params_alike (p ∷ ps) found names earlier h =
       onward found _ _ _ _
       (onward found (param_sites p) (param_sites p) _ _ refl
-      (next _ _ _ [] [] (param_alike _ (param_name p) names earlier (h.same_names (param_name p).text)) refl))
+      (next _ _ _ [] []
+      (name_alike Parameter _ (param_name p) names earlier 0 0 (h.same_names (param_name p).text) refl) refl))
       (params_alike ps _ (with_name names (param_name p).text) (earlier ++ (param_name p).text ∷ [])
       (alike_more names earlier (param_name p).text h))
 
@@ -319,20 +259,12 @@ module _ (g : Globals) where
       (next _ (Declares h) (Declares h) _ _ refl
       (params_alike (params_of h.params) _ [] [] (record { same_names = λ x. refl })))
 
-  function_alike : (found : Option TypeFault) (n : Name) (names earlier : List Text) (count : ℕ) → has n.text names
-      ≡ has n.text earlier →
-      noted g found (Defines Function n names count) ≡ noted g found (Defines Function n earlier count)
-  function_alike found n names earlier count h =
-      noted-Function g found n names count
-      ∙ ap (λ b. noted_when (nat_eq count FUNCTIONS) (Limit 10 n.at) (noted_when b (Rule 5 n.at) found)) h
-      ∙ sym (noted-Function g found n earlier count)
-
   named_alike : (found : Option TypeFault) (k : kept.Seen) (s : Seen) (h : Head) → Keeps k s →
       met g found (kept_named_sites k.functions k.function_count h) ≡ met g found (named_sites s h)
   named_alike found k s h keeps =
       next found _ _ _ _
-      (function_alike found h.name k.functions s.functions k.function_count (keeps.functions.same_names h.name.text)
-      ∙ ap (λ n. noted g found (Defines Function h.name s.functions n)) keeps.function_count) refl
+      (name_alike Function found h.name k.functions s.functions k.function_count (length s.functions)
+      (keeps.functions.same_names h.name.text) keeps.function_count) refl
 
   heads_alike : (found : Option TypeFault) (k : kept.Seen) (s : Seen) (h : Head) (scope : Scope) → Keeps k s →
       met g found (kept_head_sites g k.functions k.function_count h scope) ≡ met g found (head_sites g s h scope)
@@ -353,8 +285,9 @@ module _ (g : Globals) where
       structs_alike found k s name fields h.structs h.count
   item_alike (item.Enum at name values) found k s scope h =
       next found _ _ _ _
-      (enum_alike found name k.enums s.enums 0 (length s.enums) (h.enums.same_names name.text))
-      (values_alike values _ k.values s.values 0 0 h.values refl)
+      (name_alike Enum found name k.enums s.enums 0 0 (h.enums.same_names name.text) refl
+      ∙ enum_alike found name s.enums 0 (length s.enums))
+      (names_alike Value values _ k.values s.values 0 0 h.values refl)
   item_alike (item.Proto outer head) found k s scope h = protos_alike found head
   item_alike (item.Function head body) found k s scope h = functions_alike found k s head body scope h
   item_alike (item.Declare d) found k s scope h = refl

@@ -1,11 +1,11 @@
 // Definitions: what is defined twice, what is not defined, and the limits.
 ghost use Rattle.std.specs.Prelude.{◌≡◌, ◌+◌, ◌∷◌, [], length, nat_eq, IfOk, OnOk};
 ghost use Rattle.c_typing.specs.ItemSites.{field_type_sites, names_of};
-ghost use Rattle.c_typing.specs.Sites.{Struct, Enum, Value, Member, Defines};
-ghost use Rattle.c_typing.specs.Texts.{has};
-ghost use Rattle.c_typing.specs.declared.fault.TypeFault.TheVariants.{Rule, Limit};
-ghost use Rattle.c_check.specs.inner.Items.{with_name, with_names, kept_member_sites, kept_fields_sites};
-ghost use Rattle.c_check.specs.inner.Items.{kept_value_sites, kept_structs, kept_struct_sites, kept_enums};
+ghost use Rattle.c_typing.specs.Sites.{Defines};
+ghost use Rattle.c_typing.specs.declared.meaning.Family.TheVariants.{Struct, Enum, Value, Member};
+ghost use Rattle.c_typing.specs.declared.fault.TypeFault.TheVariants.{Limit};
+ghost use Rattle.c_check.specs.inner.Items.{counted, with_name, with_names, kept_name_sites, kept_fields_sites};
+ghost use Rattle.c_check.specs.inner.Items.{kept_structs, kept_struct_sites, kept_enums};
 ghost use Rattle.c_expressions.specs.Meeting.{met, noted, noted_when};
 
 use c_ast::{Field, Name};
@@ -14,8 +14,9 @@ use c_expressions::first::note_limit;
 use c_expressions::noting::{note_when, uses_struct};
 use c_names::naming::{self, one_more};
 use c_tables::tables::Tables;
-use c_typing::TypeFault;
-use fore_base::limits::{ENUMERATORS, FIELDS, STRUCTS};
+use c_typing::limits::FUNCTIONS;
+use c_typing::{Family, TypeFault};
+use fore_base::limits::{ENUMERATORS, FIELDS, STRUCTS, VARIABLES};
 use fore_base::list::List;
 use fore_base::memory::Mem;
 use fore_base::names::Names;
@@ -55,7 +56,7 @@ impl Seen {
 }
 
 /// Notes that a limit is passed at a place, where so many were counted before it.
-pub fn note_at(count: usize, most: usize, limit: u8, at: Place, found: &mut Option<TypeFault>)
+fn note_at(count: usize, most: usize, limit: u8, at: Place, found: &mut Option<TypeFault>)
     ensures { found.new ≡ noted_when (nat_eq count most) (Limit limit at) found.old }
 {
     if count == most {
@@ -63,51 +64,59 @@ pub fn note_at(count: usize, most: usize, limit: u8, at: Place, found: &mut Opti
     }
 }
 
-/// A name is defined; `names` are those before it.
-pub fn defines(names: &mut Names, name: &Name, found: &mut Option<TypeFault>) -> Mem<()>
-    ensures names { OnOk result (names.new ≡ with_name names.old name.now.text) }
-    ensures found { OnOk result (found.new ≡ noted_when (has name.now.text names.old) (Rule 5 name.now.at) found.old) }
+/// Notes that the limit of a family is passed at a place, where so many of it were counted before it.
+fn note_count(family: Family, count: usize, at: Place, found: &mut Option<TypeFault>)
+    ensures { found.new ≡ counted family count at found.old }
 {
-    let known = naming::is_there(names, name.text.as_slice());
-    let _new = naming::add(names, name.text.as_slice())?;
-    note_when(known, 5, name.at, found);
-    Ok(())
+    match family {
+        Family::Struct => note_at(count, STRUCTS, 2, at, found),
+        Family::Member => note_at(count, FIELDS, 3, at, found),
+        Family::Variable => note_at(count, VARIABLES, 4, at, found),
+        Family::Value => note_at(count, ENUMERATORS, 5, at, found),
+        Family::Function => note_at(count, FUNCTIONS, 10, at, found),
+        Family::Enum | Family::Parameter => {}
+    }
 }
 
-/// A field is defined, after so many others.
+/// A name of this family is defined, after so many others; `names` are those before it.
 #[tactic(auto, using(crate::proofs::ItemLemmas::sites))]
-fn defines_member(
+pub fn defines(
     tables: &Tables,
+    family: Family,
     names: &mut Names,
     count: usize,
     name: &Name,
     found: &mut Option<TypeFault>,
 ) -> Mem<()>
     ensures names { OnOk result (names.new ≡ with_name names.old name.now.text) }
-    ensures found { OnOk result (found.new ≡ noted tables.now found.old (Defines Member name.now names.old count)) }
+    ensures found { OnOk result (found.new ≡ noted tables.now found.old (Defines family name.now names.old count)) }
 {
     let _tables = tables;
-    defines(names, name, found)?;
-    note_at(count, FIELDS, 3, name.at, found);
+    let known = naming::is_there(names, name.text.as_slice());
+    let _new = naming::add(names, name.text.as_slice())?;
+    note_when(known, 5, name.at, found);
+    note_count(family, count, name.at, found);
     Ok(())
 }
 
-/// Fields of one line, after so many others: how many there are then.
+/// Names of this family are defined, one after the other, after so many others: how many there are then.
 #[tactic(auto, using(c_expressions::proofs::MeetingLemmas::meeting))]
-fn defines_members(
+fn defines_all(
     tables: &Tables,
+    family: Family,
     names: &mut Names,
     count: usize,
-    fields: &[Name],
+    list: &[Name],
     found: &mut Option<TypeFault>,
 ) -> Mem<usize>
-    ensures count { IfOk result (λ more. more ≡ count + length fields.now) }
-    ensures names { OnOk result (names.new ≡ with_names names.old fields.now) }
-    ensures found { OnOk result (found.new ≡ met tables.now found.old (kept_member_sites names.old count fields.now)) }
+    ensures count { IfOk result (λ more. more ≡ count + length list.now) }
+    ensures names { OnOk result (names.new ≡ with_names names.old list.now) }
+    ensures found { OnOk result
+        (found.new ≡ met tables.now found.old (kept_name_sites family names.old count list.now)) }
 {
     let mut count = count;
-    for name in fields {
-        defines_member(tables, names, count, name, found)?;
+    for name in list {
+        defines(tables, family, names, count, name, found)?;
         count = one_more(count)?;
     }
     Ok(count)
@@ -118,8 +127,7 @@ fn names_of(field: &Field) -> &[Name]
     ensures { result.now ≡ names_of field.now }
 {
     match field {
-        Field::Pointers { fields, .. } => fields.as_slice(),
-        Field::Datums { fields, .. } => fields.as_slice(),
+        Field::Pointers { fields, .. } | Field::Datums { fields, .. } => fields.as_slice(),
     }
 }
 
@@ -136,10 +144,10 @@ fn defines_field(
     ensures names { OnOk result (names.new ≡ with_names names.old (names_of field.now)) }
     ensures found { OnOk result
         (found.new ≡ met tables.now (met tables.now found.old (field_type_sites field.now))
-        (kept_member_sites names.old count (names_of field.now))) }
+        (kept_name_sites Member names.old count (names_of field.now))) }
 {
     uses_field_type(tables, field, found);
-    defines_members(tables, names, count, names_of(field), found)
+    defines_all(tables, Family::Member, names, count, names_of(field), found)
 }
 
 /// The fields of a struct.
@@ -161,7 +169,6 @@ fn defines_fields(
 }
 
 /// A struct with its fields.
-#[tactic(auto, using(crate::proofs::ItemLemmas::sites))]
 fn defines_struct(
     tables: &Tables,
     seen: &mut Seen,
@@ -178,10 +185,16 @@ fn defines_struct(
         (found.new ≡ noted tables.now found.old
         (Defines Struct name.now seen.old.structs seen.old.count)) }
 {
-    let _tables = tables;
-    defines(&mut seen.structs, name, found)?;
-    note_at(seen.count, STRUCTS, 2, name.at, found);
-    seen.count = one_more(seen.count)?;
+    let count = seen.count;
+    defines(
+        tables,
+        Family::Struct,
+        &mut seen.structs,
+        count,
+        name,
+        found,
+    )?;
+    seen.count = one_more(count)?;
     Ok(())
 }
 
@@ -212,55 +225,6 @@ pub fn struct_item(
     }
 }
 
-/// An enumerator is defined, after so many others of its enumeration.
-#[tactic(auto, using(crate::proofs::ItemLemmas::sites))]
-fn defines_value(
-    tables: &Tables,
-    names: &mut Names,
-    count: usize,
-    name: &Name,
-    found: &mut Option<TypeFault>,
-) -> Mem<()>
-    ensures names { OnOk result (names.new ≡ with_name names.old name.now.text) }
-    ensures found { OnOk result (found.new ≡ noted tables.now found.old (Defines Value name.now names.old count)) }
-{
-    let _tables = tables;
-    defines(names, name, found)?;
-    note_at(count, ENUMERATORS, 5, name.at, found);
-    Ok(())
-}
-
-/// The enumerators of an enumeration.
-#[tactic(auto, using(c_expressions::proofs::MeetingLemmas::meeting))]
-fn defines_values(
-    tables: &Tables,
-    names: &mut Names,
-    values: &[Name],
-    found: &mut Option<TypeFault>,
-) -> Mem<()>
-    ensures names { OnOk result (names.new ≡ with_names names.old values.now) }
-    ensures found { OnOk result (found.new ≡ met tables.now found.old (kept_value_sites names.old 0 values.now)) }
-{
-    for (count, value) in values.iter().enumerate() {
-        defines_value(tables, names, count, value, found)?;
-    }
-    Ok(())
-}
-
-#[tactic(auto, using(crate::proofs::ItemLemmas::sites))]
-fn defines_enum(
-    tables: &Tables,
-    names: &mut Names,
-    name: &Name,
-    found: &mut Option<TypeFault>,
-) -> Mem<()>
-    ensures names { OnOk result (names.new ≡ with_name names.old name.now.text) }
-    ensures found { OnOk result (found.new ≡ noted tables.now found.old (Defines Enum name.now names.old 0)) }
-{
-    let _tables = tables;
-    defines(names, name, found)
-}
-
 /// An enumeration with its enumerators.
 #[tactic(auto, using(c_expressions::proofs::MeetingLemmas::meeting))]
 pub fn enum_item(
@@ -273,8 +237,9 @@ pub fn enum_item(
     ensures seen { OnOk result (seen.new ≡ kept_enums seen.old name.now values.now) }
     ensures found { OnOk result
         (found.new ≡ met tables.now found.old
-        (Defines Enum name.now seen.old.enums 0 ∷ kept_value_sites seen.old.values 0 values.now)) }
+        (Defines Enum name.now seen.old.enums 0 ∷ kept_name_sites Value seen.old.values 0 values.now)) }
 {
-    defines_enum(tables, &mut seen.enums, name, found)?;
-    defines_values(tables, &mut seen.values, values, found)
+    defines(tables, Family::Enum, &mut seen.enums, 0, name, found)?;
+    let _count = defines_all(tables, Family::Value, &mut seen.values, 0, values, found)?;
+    Ok(())
 }

@@ -1,18 +1,20 @@
 // Functions: their heads, with the variables that these declare, and their bodies.
 ghost use Rattle.std.specs.Prelude.{◌≡◌, [], OnOk};
+ghost use Rattle.c_typing.specs.BodySites.{block_places};
 ghost use Rattle.c_typing.specs.Globals.{param_kind, struct_names};
 ghost use Rattle.c_typing.specs.ItemSites.{own_param_sites, own_params_sites, result_sites};
 ghost use Rattle.c_typing.specs.Scopes.{begun, declared, outside, param_name, past_block, past_head, past_params};
 ghost use Rattle.c_typing.specs.Scopes.{past_result, result_of};
-ghost use Rattle.c_typing.specs.Sites.{Defines, Function, Functions};
+ghost use Rattle.c_typing.specs.Sites.{Counts, Functions};
 ghost use Rattle.c_check.specs.inner.Items.{kept_function_sites, kept_head_sites, kept_named_sites, with_name};
 ghost use Rattle.c_expressions.specs.Meeting.{met, noted};
 
-use crate::definitions::{defines, note_at};
+use crate::definitions::defines;
 use c_ast::{Block, Head, Name, Param};
 use c_bodies::bodies::block_faults;
-use c_bodies::counting::counts;
 use c_bodies::types::{uses_param, uses_result};
+use c_callees::place_behind;
+use c_expressions::first::note_limit;
 use c_expressions::noting::{defines_variable, note_when};
 use c_functions::given::is_given;
 use c_functions::profile::is_main_head;
@@ -20,29 +22,11 @@ use c_scopes::heads::{begin, declare_param, declare_result, param_name, result_o
 use c_scopes::scopes::Scope;
 use c_tables::functions::{is_main, params_of};
 use c_tables::tables::Tables;
-use c_typing::limits::FUNCTIONS;
-use c_typing::{Kind, TypeFault};
+use c_typing::{Family, Kind, TypeFault};
+use fore_base::limits::STATEMENTS;
 use fore_base::memory::Mem;
 use fore_base::names::Names;
 use std::alloc::Global;
-
-/// A function is defined, after these and so many others.
-#[tactic(auto, using(crate::proofs::ItemLemmas::sites))]
-fn defines_function(
-    tables: &Tables,
-    names: &mut Names,
-    count: usize,
-    name: &Name,
-    found: &mut Option<TypeFault>,
-) -> Mem<()>
-    ensures names { OnOk result (names.new ≡ with_name names.old name.now.text) }
-    ensures found { OnOk result (found.new ≡ noted tables.now found.old (Defines Function name.now names.old count)) }
-{
-    let _tables = tables;
-    defines(names, name, found)?;
-    note_at(count, FUNCTIONS, 10, name.at, found);
-    Ok(())
-}
 
 /// A function is defined.
 #[tactic(auto, using(crate::proofs::ItemLemmas::sites))]
@@ -68,7 +52,7 @@ fn named(
     ensures found { OnOk result
         (found.new ≡ met tables.now found.old (kept_named_sites names.old count head.now)) }
 {
-    defines_function(tables, names, count, &head.name, found)?;
+    defines(tables, Family::Function, names, count, &head.name, found)?;
     functions(tables, head, found);
     Ok(())
 }
@@ -172,6 +156,17 @@ fn head_faults(
     scope.enter(alloc)?;
     params_faults(alloc, tables, scope, params_of(&head.params), found)?;
     Ok(())
+}
+
+/// The first statement or declaration of a body beyond the limit.
+fn counts(tables: &Tables, block: &Block, found: &mut Option<TypeFault>)
+    ensures { found.new ≡ noted tables.now found.old (Counts (block_places block.now).within) }
+{
+    let _tables = tables;
+    match place_behind(STATEMENTS as u32, block) {
+        Some(at) => note_limit(found, 7, at),
+        None => {}
+    }
 }
 
 /// What a function breaks, which is defined after these and so many others.

@@ -3,7 +3,8 @@ ghost use Rattle.std.specs.Prelude.{◌≡◌, ◌++◌, ◌∷◌, [], OnOk};
 ghost use Rattle.c_typing.specs.BodySites.{type_sites};
 ghost use Rattle.c_typing.specs.ItemSites.{global_sites, param_sites};
 ghost use Rattle.c_typing.specs.Scopes.{declarators_of, param_name};
-ghost use Rattle.c_typing.specs.Sites.{Declares, Defines, Globally, Parameter};
+ghost use Rattle.c_typing.specs.Sites.{Declares, Defines, Globally};
+ghost use Rattle.c_typing.specs.declared.meaning.Family.TheVariants.{Parameter};
 ghost use Rattle.c_check.specs.inner.Items.{kept_params_sites, kept_proto_sites, with_name};
 ghost use Rattle.c_expressions.specs.Meeting.{met, noted};
 
@@ -16,7 +17,7 @@ use c_making::declaring::declarators_of;
 use c_scopes::heads::param_name;
 use c_tables::functions::params_of;
 use c_tables::tables::Tables;
-use c_typing::TypeFault;
+use c_typing::{Family, TypeFault};
 use fore_base::memory::Mem;
 use fore_base::names::Names;
 use std::alloc::Global;
@@ -28,21 +29,6 @@ fn declares(tables: &Tables, head: &Head, found: &mut Option<TypeFault>)
 {
     let right = is_right_prototype(tables, head);
     note_when(!right, 15, head.name.at, found);
-}
-
-/// A parameter of a prototype is named, which is no variable.
-#[tactic(auto, using(crate::proofs::ItemLemmas::sites))]
-fn defines_param(
-    tables: &Tables,
-    names: &mut Names,
-    name: &Name,
-    found: &mut Option<TypeFault>,
-) -> Mem<()>
-    ensures names { OnOk result (names.new ≡ with_name names.old name.now.text) }
-    ensures found { OnOk result (found.new ≡ noted tables.now found.old (Defines Parameter name.now names.old 0)) }
-{
-    let _tables = tables;
-    defines(names, name, found)
 }
 
 /// A parameter of a prototype, with its type.
@@ -59,7 +45,14 @@ fn proto_param(
         (param_sites param.now ++ Defines Parameter (param_name param.now) names.old 0 ∷ [])) }
 {
     uses_param(tables, param, found);
-    defines_param(tables, names, param_name(param), found)
+    defines(
+        tables,
+        Family::Parameter,
+        names,
+        0,
+        param_name(param),
+        found,
+    )
 }
 
 /// The parameters of a prototype.

@@ -2,7 +2,7 @@
 use Rattle.std.proofs.Common.{◌≡◌, ◌⊎◌, inl, inr, ℕ, zero, suc, Bool, true, false, cond, ◌||◌, List, [], ◌∷◌, ◌++◌}
 use Rattle.std.proofs.Common.{length, slice_get, Option, Some, None, refl, sym, arith}
 use Rattle.std.specs.Cmp.Lexicographic.{bytes_decides}
-use Rattle.std.proofs.lemmas.Bool.{false≢true}
+use Rattle.std.proofs.lemmas.Bool.{false≢true, or_cases}
 use Rattle.fore_base.specs.Lists.{IsIn, IsDistinct}
 use Rattle.fore_base.proofs.NameLemmas.{in_at}
 use Rattle.c_names.proofs.NameLemmas.{same_refl, differs}
@@ -60,15 +60,11 @@ module _ {X : Type 0} where
       look_up x ns vs ≡ or_else (look_up x ns vs) (cond (same x name) (Some v) None)
   look_up_there x name [] vs v e h = absurd (false≢true h)
   look_up_there x name (n ∷ ns) [] v e h = absurd (omega arith)
-  look_up_there x name (n ∷ ns) (w ∷ ws) v e h = elim (or_parts_of (same name n) (has name ns) h) [
+  look_up_there x name (n ∷ ns) (w ∷ ws) v e h = elim (or_cases (same name n) (has name ns) h) [
     | inl here ↦ at_front x name n (look_up x ns ws) w v here
     | inr later ↦ by (same x n) _ _ (look_up_there x name ns ws v (omega arith) later)
   ]
     where
-      or_parts_of : (a b : Bool) → (a || b) ≡ true → (a ≡ true) ⊎ (b ≡ true)
-      or_parts_of true b h = inl refl
-      or_parts_of false b h = inr h
-
       by : (b : Bool) (r q : Option X) → r ≡ or_else r q → cond b (Some w) r ≡ or_else (cond b (Some w) r) q
       by true r q h = refl
       by false r q h = h

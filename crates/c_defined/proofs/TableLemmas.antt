@@ -82,8 +82,3 @@ pub struct_names_all : (items : List Item) → firsts itself [] (each_of names_i
     ≡ map defined_name (struct_definitions items)
 struct_names_all items = ap (firsts itself []) (names_each items)
     ∙ firsts_named defined_name [] (each_of structs_in items)
-
-pub names_of_structs : (names : List Text) (ds : List Definition) → map struct_name (map (struct_of names) ds)
-    ≡ map defined_name ds
-names_of_structs names [] = refl
-names_of_structs names (d ∷ ds) = ap (λ ns. defined_name d ∷ ns) (names_of_structs names ds)

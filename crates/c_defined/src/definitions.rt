@@ -45,7 +45,7 @@ impl Definitions {
     /// # Errors
     ///
     /// Want of memory.
-    #[tactic(auto, using(crate::proofs::TableLemmas::names_of_structs))]
+    #[tactic(auto, using(c_typing::proofs::Firsts::names_of_structs))]
     pub fn of(alloc: Global, items: &[Item]) -> Mem<Definitions>
         ensures structs { IfOk result (λ d. d.structs ≡ structs_of items.now) }
         ensures enums { IfOk result (λ d. d.enums ≡ enums_of items.now) }

@@ -13,7 +13,8 @@ use Rattle.c_typing.specs.Profile.{is_allowed}
 use Rattle.c_typing.specs.Rules.{differ, wanted_struct, wants_pointer, wants_datum, is_datum, is_pointer, lacks_field}
 use Rattle.c_typing.specs.Rules.{gives_datum, gives_pointer, may_return, result_struct}
 use Rattle.c_typing.specs.Scopes.{Scope, look_up}
-use Rattle.c_typing.specs.Sites.{Site, UsesStruct, UsesEnum, Defines, Variable, Begins, Follows, Measures, Stands}
+use Rattle.c_typing.specs.Sites.{Site, UsesStruct, UsesEnum, Defines, Begins, Follows, Measures, Stands}
+use Rattle.c_typing.specs.declared.meaning.Family.TheVariants.{Variable}
 use Rattle.c_typing.specs.Sites.{Chooses, Gives, Allocates, Casts, Sizes, Calls, Jumps, Returns, Counts, struct_at}
 use Rattle.c_typing.specs.Texts.{Text, has}
 use Rattle.c_typing.specs.Typing.{breaches_at, breaches_of}

@@ -2,7 +2,8 @@
 ghost use Rattle.std.specs.Prelude.{◌≡◌, not, ◌||◌, ◌&&◌, map};
 ghost use Rattle.c_typing.specs.Rules.{lacks_field, may_return};
 ghost use Rattle.c_typing.specs.Scopes.{var_name, innermost, declared_so_far};
-ghost use Rattle.c_typing.specs.Sites.{UsesStruct, UsesEnum, Defines, Variable, Begins, Follows, Measures, Stands};
+ghost use Rattle.c_typing.specs.Sites.{UsesStruct, UsesEnum, Defines, Begins, Follows, Measures, Stands};
+ghost use Rattle.c_typing.specs.declared.meaning.Family.TheVariants.{Variable};
 ghost use Rattle.c_typing.specs.Sites.{Chooses, Gives, Allocates, Casts, Sizes, Jumps, Returns};
 ghost use Rattle.c_typing.specs.declared.fault.TypeFault.TheVariants.{Rule};
 ghost use Rattle.c_expressions.specs.Meeting.{noted, noted_when};

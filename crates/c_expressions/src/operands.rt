@@ -207,10 +207,7 @@ fn size_faults(
             uses_struct(tables, name, found);
             Ok(())
         }
-        Size::Bracketed { at, star, path } => starred_faults(
-            alloc, tables, scope, want, *at, *star, path, found,
-        ),
-        Size::Bare { at, star, path } => starred_faults(
+        Size::Bracketed { at, star, path } | Size::Bare { at, star, path } => starred_faults(
             alloc, tables, scope, want, *at, *star, path, found,
         ),
     }

@@ -25,10 +25,8 @@ use std::alloc::Global;
 /// # Errors
 ///
 /// `Breaks` with the first rule that the file breaks: the first byte at which no token begins, or comment that is not
-/// closed (L); else the first
-/// token that no accepted program has (P); else the first hopeless token, or level too many (S); else the first breach
-/// of the rules of names,
-/// types and limits (T, K). `Memory` for want of memory.
+/// closed (L); else the first token that no accepted program has (P); else the first hopeless token, or level too many
+/// (S); else the first breach of the rules of names, types and limits (T, K). `Memory` for want of memory.
 pub fn program_in(alloc: Global, bytes: &[u8]) -> Result<Typed, FileFault>
     requires { length bytes.now ≤ FILE_BYTES }
     ensures ok { IfOk result (IsProgramOf bytes.now) }

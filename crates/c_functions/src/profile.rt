@@ -61,8 +61,7 @@ fn has_no_params(params: &Option<Params>) -> bool
     ensures { result ≡ has_no_params params.now }
 {
     match params {
-        None => true,
-        Some(Params::Void { .. }) => true,
+        None | Some(Params::Void { .. }) => true,
         Some(Params::List(_)) => false,
     }
 }

@@ -24,7 +24,7 @@ use Rattle.c_lower.specs.inner.Emitting.{first_of, ptrs_of, datums_of, inside, i
 use Rattle.c_lower.specs.inner.Emitting.{act_links, emit_test, emit}
 use Rattle.c_lower.proofs.Lines.{Lined, lined_front, lined_back, replicate_first, atom_wide, test_lines_length}
 use Rattle.c_lower.proofs.Lines.{lines_length}
-use Rattle.c_cfg.proofs.Opening.{then_then, open_then}
+use Rattle.c_types.proofs.Standing.{then_then, open_then}
 use Rattle.c_lower.proofs.Standing.{IsWhole}
 use Rattle.c_lower.proofs.Stacking.{loc_open, loc_ask}
 

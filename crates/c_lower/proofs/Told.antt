@@ -15,15 +15,14 @@ use Rattle.c_cfg.specs.declared.graph.Instr.TheVariants.{CopyData, LoadData, Sto
 use Rattle.c_cfg.specs.declared.graph.Edge.{Edge}
 use Rattle.c_cfg.specs.Graphs.{has_choice, is_none_or, is_choose, may_have, HasItsChoice}
 use Rattle.c_cfg.specs.declared.link.Link.{Link}
-use Rattle.c_cfg.specs.Links.{op_loads, data_op_loads}
 use Rattle.c_cfg.specs.Links.{act_row, enter_row, leave_row, exit_row}
 use Rattle.c_cfg.specs.Links.{ptr_loads, cmp_loads, ptr_test, data_test, ptr_ends, data_ends}
 use Rattle.c_cfg.specs.Lowering.{link_edges}
 use Rattle.c_links.specs.Chains.{chain}
 use Rattle.c_edges.specs.Comparing.{test_edges}
 use Rattle.c_lower.specs.inner.Numbering.{atom_edges, place_edges, all_edges}
-use Rattle.c_cfg.proofs.ItsChoices.{Fit, fit_more, ends_fit, op_fit, data_op_fit, act_fits, Told, told_more}
-use Rattle.c_cfg.proofs.ItsChoices.{link_told, enter_fits, leave_fits, exit_fits}
+use Rattle.c_cfg.proofs.ItsChoices.{Fit, plain_fit, act_fits, Told, told_more, link_told}
+use Rattle.c_cfg.proofs.PlainLinks.{ends_plain, ptr_plain, cmp_plain, enter_plain, leave_plain, exit_plain}
 
 chain_told : (line : ℕ) (ls : List Link) (k to : ℕ) → Fit ls → Told (chain line ls k to)
 chain_told line [] k to h = tt
@@ -53,18 +52,16 @@ module _ (nv nd : ℕ) where
   atom_told (KnownAtom false) line k x y = (refl, tt)
   atom_told (PtrAtom l r true) line k x y =
       test_told line (ptr_loads nv nd l r) (ptr_test nv nd l r) (ptr_ends nv nd l r) k x y
-      (fit_more (op_loads nv l) _ (op_fit nv l) (op_fit (nv + 1) r)) (λ b. refl) (ends_fit _ [])
+      (plain_fit _ (ptr_plain nv nd l r)) (λ b. refl) (plain_fit _ (ends_plain _ []))
   atom_told (PtrAtom l r false) line k x y =
       test_told line (ptr_loads nv nd l r) (ptr_test nv nd l r) (ptr_ends nv nd l r) k y x
-      (fit_more (op_loads nv l) _ (op_fit nv l) (op_fit (nv + 1) r)) (λ b. refl) (ends_fit _ [])
+      (plain_fit _ (ptr_plain nv nd l r)) (λ b. refl) (plain_fit _ (ends_plain _ []))
   atom_told (DataAtom l r true) line k x y =
       test_told line (cmp_loads nv nd l r) (data_test nv nd l r) (data_ends nv nd l r) k x y
-      (fit_more (data_op_loads nv nd l) _ (data_op_fit nv nd l) (data_op_fit (nv + 1) (nd + 1) r)) (λ b. refl)
-      (ends_fit _ _)
+      (plain_fit _ (cmp_plain nv nd l r)) (λ b. refl) (plain_fit _ (ends_plain _ _))
   atom_told (DataAtom l r false) line k x y =
       test_told line (cmp_loads nv nd l r) (data_test nv nd l r) (data_ends nv nd l r) k y x
-      (fit_more (data_op_loads nv nd l) _ (data_op_fit nv nd l) (data_op_fit (nv + 1) (nd + 1) r)) (λ b. refl)
-      (ends_fit _ _)
+      (plain_fit _ (cmp_plain nv nd l r)) (λ b. refl) (plain_fit _ (ends_plain _ _))
 
   place_told : (exit : ℕ) (line : ℕ → ℕ) (c : Items) → Told (place_edges nv nd exit line c)
   place_told exit line Done = tt
@@ -78,10 +75,12 @@ module _ (nv nd : ℕ) where
   place_told exit line (Again c n b is) = tt
   place_told exit line (DoLoop c b is) = tt
   place_told exit line (DoAgain c b is) = tt
-  place_told exit line (Enter vs ws m is) = chain_told (line m) (enter_row nv nd vs ws) m _ (enter_fits nv nd vs ws)
+  place_told exit line (Enter vs ws m is) =
+      chain_told (line m) (enter_row nv nd vs ws) m _ (plain_fit _ (enter_plain nv nd vs ws))
   place_told exit line (Leave v vs a m is) =
-      chain_told (line m) (leave_row nv nd v vs a) m _ (leave_fits nv nd v vs a)
-  place_told exit line (Exit v vs d m is) = chain_told (line m) (exit_row nv nd v vs d) m _ (exit_fits nv nd v vs d)
+      chain_told (line m) (leave_row nv nd v vs a) m _ (plain_fit _ (leave_plain nv nd v vs a))
+  place_told exit line (Exit v vs d m is) =
+      chain_told (line m) (exit_row nv nd v vs d) m _ (plain_fit _ (exit_plain nv nd v vs d))
 
   pub all_told : (exit : ℕ) (line : ℕ → ℕ) (ps : List Items) → Told (all_edges nv nd exit line ps)
   all_told exit line [] = tt

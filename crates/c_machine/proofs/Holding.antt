@@ -17,7 +17,7 @@ use Rattle.c_types.specs.declared.program.Dest.{Dest}
 use Rattle.c_types.specs.declared.program.Func.{Func}
 use Rattle.c_types.specs.declared.program.VarRef.{VarRef}
 use Rattle.c_types.specs.declared.program.VarRef.TheVariants.{Ptr as PtrVar, Data as DatumVar}
-use Rattle.c_types.proofs.OwnExits.{act_passed}
+use Rattle.c_types.proofs.Composing.{act_composed}
 use Rattle.fore_base.specs.declared.store.Store.{Store}
 use Rattle.c_types.specs.declared.program.Stmt.TheOpen.{Do as Do-F, Branch as Branch-F, While as While-F}
 use Rattle.c_types.specs.declared.program.Stmt.TheOpen.{DoWhile as DoWhile-F, For as For-F, Group as Group-F}
@@ -144,7 +144,7 @@ module _ (vs : List Value) where
     layer_holds : (y : Stmt-F ((s : Stmt) × HoldsAs s))
         → LayerHolds (map-Stmt ((s : Stmt) × HoldsAs s) Stmt (λ e. e.0) y)
     layer_holds (Do-F a line) r =
-        act_passed (λ z. hold_cell vs (closed_ptrs z)) (λ b m q. refl) (λ v ws b m q. refl) funcs a line r
+        act_composed (λ f. Holds f false) (λ b m q. refl) (λ g b m q. refl) funcs a line r
     layer_holds (Branch-F c x y) r = refl
     layer_holds (While-F c b) r = refl
     layer_holds (DoWhile-F c b) r = refl

@@ -14,11 +14,12 @@ use Rattle.c_types.specs.declared.program.Stmt.TheVariants.{rolls-Group, Call, r
 use Rattle.c_types.specs.declared.program.VarRef.{VarRef}
 use Rattle.c_types.specs.declared.program.Arg.{Arg}
 use Rattle.c_types.specs.declared.program.Dest.{Dest}
-use Rattle.c_types.proofs.OwnExits.{act_passed, closes_own, leaves_past}
+use Rattle.c_types.proofs.Composing.{act_composed}
+use Rattle.c_types.proofs.OwnEnds.{closes_own, leaves_past, closes_no_again, all_no_again}
 use Rattle.c_types.specs.declared.program.Stmt.TheOpen.{Do as Do-F, Branch as Branch-F, While as While-F}
 use Rattle.c_types.specs.declared.program.Stmt.TheOpen.{DoWhile as DoWhile-F, For as For-F, Group as Group-F}
 use Rattle.c_types.specs.declared.program.Stmt.TheOpen.{Call as Call-F}
-use Rattle.c_types.specs.Control.{Items, Done, Loop, Exit, Test, after_again, from_again, from_exit, closed_ptrs}
+use Rattle.c_types.specs.Control.{Items, Done, Loop, Exit, Test, from_exit, closed_ptrs}
 use Rattle.c_types.specs.Control.{closed_datums, all_before, closes, call_items, items_step, items_by, body_within}
 use Rattle.c_acts.proofs.Dying.{kill_merged}
 use Rattle.c_machine.specs.Pending.{in_order, ends_in_each, ends_called, ends_step, ends_by, ends_within, ends_among}
@@ -34,125 +35,81 @@ leaving_closes [] (d ∷ ds) m r s = kill_merged [] (closed_ptrs r) (d ∷ ds) (
 leaving_closes (p ∷ ps) ds m r s = kill_merged (p ∷ ps) (closed_ptrs r) ds (closed_datums r) s
 
 -- what is said of a statement's items before others
-pub record Leaves (f : Items → Items) (ends : Store → Store) : Type 0 where
-  pub dies : (r : Items) (s : Store) → leaving (f r) s ≡ leaving r (ends s)
-  pub after : (r : Items) → after_again (f r) ≡ after_again r
-  pub from : (r : Items) → from_again (f r) ≡ from_again r
-
-after_closes : (ps ds : List ℕ) (m : ℕ) (r : Items) → after_again (closes ps ds m r) ≡ after_again r
-after_closes [] [] m r = refl
-after_closes [] (d ∷ ds) m r = refl
-after_closes (p ∷ ps) ds m r = refl
-
-from_closes : (ps ds : List ℕ) (m : ℕ) (r : Items) → from_again (closes ps ds m r) ≡ from_again r
-from_closes [] [] m r = refl
-from_closes [] (d ∷ ds) m r = refl
-from_closes (p ∷ ps) ds m r = refl
+abbrev Dies : (Items → Items) → (Store → Store) → Type 0
+Dies f ends = (r : Items) (s : Store) → leaving (f r) s ≡ leaving r (ends s)
 
 module _ (funcs : List Func) (inside : List Stmt → Items → Items) (ended : List Stmt → Store → Store)
-    (bodies : (b : List Stmt) → Leaves (inside b) (ended b)) where
+    (bodies : (b : List Stmt) → Dies (inside b) (ended b)) where
   abbrev its : Stmt → Items → Items
   its = items_by funcs inside
 
   abbrev dying : Stmt → Store → Store
   dying = ends_by funcs ended
 
-  abbrev LeavesAs : Stmt → Type 0
-  LeavesAs s = Leaves (its s) (dying s)
+  abbrev DiesAs : Stmt → Type 0
+  DiesAs s = Dies (its s) (dying s)
 
-  abbrev bare : List ((s : Stmt) × LeavesAs s) → List Stmt
+  abbrev bare : List ((s : Stmt) × DiesAs s) → List Stmt
   bare es = map (λ e. e.0) es
 
-  each_leaves : (es : List ((s : Stmt) × LeavesAs s))
-      → Leaves (all_before (map its (bare es))) (ends_in_each (map dying (bare es)))
-  each_leaves [] = record { dies = λ r s. refl; after = λ r. refl; from = λ r. refl }
-  each_leaves (e ∷ es) =
-      let rest = each_leaves es in
-      record {
-        dies = λ r s. e.1.dies (all_before (map its (bare es)) r) s ∙ rest.dies r (dying e.0 s);
-        after = λ r. e.1.after (all_before (map its (bare es)) r) ∙ rest.after r;
-        from = λ r. e.1.from (all_before (map its (bare es)) r) ∙ rest.from r;
-      }
+  each_dies : (es : List ((s : Stmt) × DiesAs s))
+      → Dies (all_before (map its (bare es))) (ends_in_each (map dying (bare es)))
+  each_dies [] r s = refl
+  each_dies (e ∷ es) r s = e.1 (all_before (map its (bare es)) r) s ∙ each_dies es r (dying e.0 s)
 
-  call_leaves : (o : Option Func) (args : List Arg) (to' : Option Dest) (m : ℕ)
-      → Leaves (call_items inside o args to' m) (ends_called ended o)
-  call_leaves None args to' m = record { dies = λ r s. refl; after = λ r. refl; from = λ r. refl }
-  call_leaves (Some g) args to' m =
-      let body = bodies g.body in
-      record {
-        dies = λ r s. body.dies (Exit g.result g.params to' m r) s;
-        after = λ r. body.after (Exit g.result g.params to' m r);
-        from = λ r. body.from (Exit g.result g.params to' m r);
-      }
+  call_dies : (o : Option Func) (args : List Arg) (to' : Option Dest) (m : ℕ)
+      → Dies (call_items inside o args to' m) (ends_called ended o)
+  call_dies None args to' m r s = refl
+  call_dies (Some g) args to' m r s = bodies g.body (Exit g.result g.params to' m r) s
 
-  abbrev LayerLeaves : Stmt-F Stmt → Type 0
-  LayerLeaves y = Leaves (items_step funcs inside (map-Stmt Stmt (Items → Items) its y))
+  abbrev LayerDies : Stmt-F Stmt → Type 0
+  LayerDies y = Dies (items_step funcs inside (map-Stmt Stmt (Items → Items) its y))
       (ends_step funcs ended (map-Stmt Stmt (Store → Store) dying y))
 
-  layer_leaves : (y : Stmt-F ((s : Stmt) × LeavesAs s))
-      → LayerLeaves (map-Stmt ((s : Stmt) × LeavesAs s) Stmt (λ e. e.0) y)
-  layer_leaves (Do-F a line) = record {
-    dies = λ r s. act_passed (λ z. leaving z s) (λ b m q. refl) (λ v vs b m q. refl) funcs a line r;
-    after = λ r. act_passed after_again (λ b m q. refl) (λ v vs b m q. refl) funcs a line r;
-    from = λ r. act_passed from_again (λ b m q. refl) (λ v vs b m q. refl) funcs a line r;
-  }
-  layer_leaves (Branch-F c x y) = record { dies = λ r s. refl; after = λ r. refl; from = λ r. refl }
-  layer_leaves (While-F c b) = record { dies = λ r s. refl; after = λ r. refl; from = λ r. refl }
-  layer_leaves (DoWhile-F c b) = record { dies = λ r s. refl; after = λ r. refl; from = λ r. refl }
-  layer_leaves (For-F c n b) = record { dies = λ r s. refl; after = λ r. refl; from = λ r. refl }
-  layer_leaves (Group-F b ps ds m) =
-      let rest = each_leaves b in
-      record {
-        dies = λ r s. rest.dies (closes ps ds m r) s
-            ∙ leaving_closes ps ds m r (ends_in_each (map dying (bare b)) s);
-        after = λ r. rest.after (closes ps ds m r) ∙ after_closes ps ds m r;
-        from = λ r. rest.from (closes ps ds m r) ∙ from_closes ps ds m r;
-      }
-  layer_leaves (Call-F f args to' line) = call_leaves (slice_get funcs f) args to' line
+  layer_dies : (y : Stmt-F ((s : Stmt) × DiesAs s)) → LayerDies (map-Stmt ((s : Stmt) × DiesAs s) Stmt (λ e. e.0) y)
+  layer_dies (Do-F a line) r s =
+      act_composed (λ f. Dies f (λ t. t)) (λ b m q t. refl) (λ g b m q t. refl) funcs a line r s
+  layer_dies (Branch-F c x y) r s = refl
+  layer_dies (While-F c b) r s = refl
+  layer_dies (DoWhile-F c b) r s = refl
+  layer_dies (For-F c n b) r s = refl
+  layer_dies (Group-F b ps ds m) r s =
+      each_dies b (closes ps ds m r) s ∙ leaving_closes ps ds m r (ends_in_each (map dying (bare b)) s)
+  layer_dies (Call-F f args to' line) r s = call_dies (slice_get funcs f) args to' line r s
 
-  stmt_leaves : (s : Stmt) → LeavesAs s
-  stmt_leaves = ind-Stmt LeavesAs (λ x y is.
-      let here : LayerLeaves x = subst LayerLeaves is (layer_leaves y) in
-      subst (λ f. Leaves f (dying (roll-Stmt x))) (sym (fold-roll-Stmt (Items → Items) (items_step funcs inside) x))
-      (subst (λ f. Leaves (items_step funcs inside (map-Stmt Stmt (Items → Items) its x)) f)
+  stmt_dies : (s : Stmt) → DiesAs s
+  stmt_dies = ind-Stmt DiesAs (λ x y is.
+      let here : LayerDies x = subst LayerDies is (layer_dies y) in
+      subst (λ f. Dies f (dying (roll-Stmt x))) (sym (fold-roll-Stmt (Items → Items) (items_step funcs inside) x))
+      (subst (λ f. Dies (items_step funcs inside (map-Stmt Stmt (Items → Items) its x)) f)
       (sym (fold-roll-Stmt (Store → Store) (ends_step funcs ended) x)) here))
 
-  all_leave : (ss : List Stmt) → Leaves (all_before (map its ss)) (ends_in_each (map dying ss))
-  all_leave [] = record { dies = λ r s. refl; after = λ r. refl; from = λ r. refl }
-  all_leave (x ∷ xs) =
-      let first = stmt_leaves x in
-      let rest = all_leave xs in
-      record {
-        dies = λ r s. first.dies (all_before (map its xs) r) s ∙ rest.dies r (dying x s);
-        after = λ r. first.after (all_before (map its xs) r) ∙ rest.after r;
-        from = λ r. first.from (all_before (map its xs) r) ∙ rest.from r;
-      }
+  all_die : (ss : List Stmt) → Dies (all_before (map its ss)) (ends_in_each (map dying ss))
+  all_die [] r s = refl
+  all_die (x ∷ xs) r s = stmt_dies x (all_before (map its xs) r) s ∙ all_die xs r (dying x s)
 
-body_leaves : (funcs : List Func) (n : ℕ) (b : List Stmt) → Leaves (body_within funcs n b) (ends_within funcs n b)
-body_leaves funcs zero b = record { dies = λ r s. refl; after = λ r. refl; from = λ r. refl }
-body_leaves funcs (suc n) b =
-    all_leave funcs (body_within funcs n) (ends_within funcs n) (body_leaves funcs n) b
-
-block_leaves : (funcs : List Func) (ss : List Stmt)
-    → Leaves (in_order funcs ss) (ends_among funcs (length funcs) ss)
-unfolding in_order
-block_leaves funcs ss =
-    let n = length funcs in
-    all_leave funcs (body_within funcs n) (ends_within funcs n) (body_leaves funcs n) ss
+body_dies : (funcs : List Func) (n : ℕ) (b : List Stmt) → Dies (body_within funcs n b) (ends_within funcs n b)
+body_dies funcs zero b r s = refl
+body_dies funcs (suc n) b r s =
+    all_die funcs (body_within funcs n) (ends_within funcs n) (body_dies funcs n) b r s
 
 pub block_dies : (funcs : List Func) (ss : List Stmt) (r : Items) (s : Store) → leaving (in_order funcs ss r) s
     ≡ leaving r (ends_among funcs (length funcs) ss s)
-block_dies funcs ss r s = (block_leaves funcs ss).dies r s
+unfolding in_order
+block_dies funcs ss r s =
+    let n = length funcs in
+    all_die funcs (body_within funcs n) (ends_within funcs n) (body_dies funcs n) ss r s
 
 pub block_goes : (funcs : List Func) (ss : List Stmt) (goes_on : Bool) (r : Items)
     → left_round goes_on (in_order funcs ss r) ≡ left_round goes_on r
-block_goes funcs ss true r = (block_leaves funcs ss).from r
-block_goes funcs ss false r = (block_leaves funcs ss).after r
+unfolding in_order
+block_goes funcs ss true r = (all_no_again funcs (length funcs) ss).from r
+block_goes funcs ss false r = (all_no_again funcs (length funcs) ss).after r
 
 pub closes_goes : (ps ds : List ℕ) (m : ℕ) (goes_on : Bool) (r : Items) → left_round goes_on (closes ps ds m r)
     ≡ left_round goes_on r
-closes_goes ps ds m true r = from_closes ps ds m r
-closes_goes ps ds m false r = after_closes ps ds m r
+closes_goes ps ds m true r = (closes_no_again ps ds m).from r
+closes_goes ps ds m false r = (closes_no_again ps ds m).after r
 
 pub loop_goes : (c : Test) (n b : Items) (goes_on : Bool) (r : Items) → left_round goes_on (Loop c n b r)
     ≡ left_round goes_on r

@@ -1,32 +1,30 @@
 -- The machine's stack and its opening, an entry and a layer at a time.
 use Rattle.std.proofs.Common.{Bor, Bool, true, false}
-use Rattle.std.proofs.Common.{◌≡◌, ℕ, zero, suc, ◌+◌, Option, Some, None, List, [], ◌∷◌, ◌++◌, map, length, slice_get}
-use Rattle.std.proofs.Common.{refl, sym, ap, ◌∙◌, subst, arith}
+use Rattle.std.proofs.Common.{◌≡◌, ℕ, ◌+◌, Option, None, List, [], ◌∷◌, ◌++◌, map, length, slice_get}
+use Rattle.std.proofs.Common.{refl, sym, ap, ◌∙◌, arith}
 use Rattle.std.proofs.lemmas.List.{nil_from_length}
 use Rattle.c_types.specs.declared.program.Act.{Act}
-use Rattle.c_types.specs.declared.program.Act.TheVariants.{SetPtr, SetData, Free, Error, Halt, Return, Break, Continue}
-use Rattle.c_types.specs.declared.program.Act.TheVariants.{Leave as LeaveAct}
 use Rattle.c_types.specs.declared.program.Func.{Func}
 use Rattle.c_types.specs.declared.program.Atom.{Atom}
 use Rattle.c_types.specs.declared.program.Cond.{Cond, fold-roll-Cond}
 use Rattle.c_types.specs.declared.program.Cond.TheVariants.{Atom as CondAtom, Not as CondNot, All as CondAll}
 use Rattle.c_types.specs.declared.program.Cond.TheVariants.{Any as CondAny, rolls-Atom, rolls-Not, rolls-All, rolls-Any}
 use Rattle.c_types.specs.declared.program.Cond.TheOpen.{Atom as Atom-F, Not as Not-F, All as All-F, Any as Any-F}
-use Rattle.c_types.specs.declared.program.Stmt.{Stmt, Stmt-F, map-Stmt, ind-Stmt, fold-roll-Stmt}
+use Rattle.c_types.specs.declared.program.Stmt.{Stmt, fold-roll-Stmt}
 use Rattle.c_types.specs.declared.program.Stmt.TheVariants.{Do as StmtDo, Branch, While, For, DoWhile, Group, Call}
 use Rattle.c_types.specs.declared.program.Stmt.TheVariants.{rolls-DoWhile, rolls-Group}
 use Rattle.c_types.specs.declared.program.Stmt.TheVariants.{rolls-Call}
 use Rattle.c_types.specs.declared.program.Arg.{Arg}
 use Rattle.c_types.specs.declared.program.Dest.{Dest}
-use Rattle.c_types.specs.declared.program.Stmt.TheOpen.{Do as Do-F, Branch as Branch-F, While as While-F}
-use Rattle.c_types.specs.declared.program.Stmt.TheOpen.{DoWhile as DoWhile-F, For as For-F, Group as Group-F}
+use Rattle.c_types.specs.declared.program.Stmt.TheOpen.{DoWhile as DoWhile-F, Group as Group-F}
 use Rattle.c_types.specs.declared.program.Stmt.TheOpen.{Call as Call-F}
-use Rattle.c_types.specs.Control.{Items, Done, Do, Close, If, Loop, Again, DoLoop, DoAgain, Enter, Leave, Exit, Test}
+use Rattle.c_types.specs.Control.{Items, Done, If, Loop, Again, DoLoop, DoAgain, Enter, Exit, Test}
 use Rattle.c_types.specs.Control.{Both, Either, ◌then◌}
 use Rattle.c_types.specs.Control.{ask, round, do_round, open_before, opened, joined, test_of, all_before, closes}
-use Rattle.c_types.specs.Control.{leave_items, act_items, call_items, items_step, items_by, body_within, items_of}
+use Rattle.c_types.specs.Control.{act_items, call_items, body_within, items_of}
 use Rattle.c_types.specs.Control.{start_of}
 use Rattle.c_types.proofs.Turns.{then_done}
+use Rattle.c_types.proofs.Standing.{then_then, open_then, all_stand}
 use Rattle.c_types.proofs.Layers.{test-Atom, test-Not, test-All, test-Any, by-Do, by-Branch, by-While, by-For}
 use Rattle.c_types.proofs.Layers.{by-DoWhile, by-Group, by-Call}
 use Rattle.c_types.specs.Program.{Program}
@@ -43,115 +41,12 @@ use Rattle.c_machine.specs.Pending.{item_of, in_order, before, onto, Ways, and_t
 use Rattle.c_machine.specs.Pending.{test_before}
 use Rattle.c_machine.specs.Pending.{size_step, size_of, weight_step, weight_of, block_weight, item_weight, stack_weight}
 
--- Items
-
-pub then_then : (c d r : Items) → (c then d) then r ≡ c then (d then r)
-then_then Done d r = refl
-then_then (Do a m is) d r = ap (Do a m) (then_then is d r)
-then_then (Close ps ds m is) d r = ap (Close ps ds m) (then_then is d r)
-then_then (If c x y is) d r = ap (If c x y) (then_then is d r)
-then_then (Loop c n b is) d r = ap (Loop c n b) (then_then is d r)
-then_then (Again c n b is) d r = ap (Again c n b) (then_then is d r)
-then_then (DoLoop c b is) d r = ap (DoLoop c b) (then_then is d r)
-then_then (DoAgain c b is) d r = ap (DoAgain c b) (then_then is d r)
-then_then (Enter vs ws m is) d r = ap (Enter vs ws m) (then_then is d r)
-then_then (Leave v vs a m is) d r = ap (Leave v vs a m) (then_then is d r)
-then_then (Exit v vs e m is) d r = ap (Exit v vs e m) (then_then is d r)
-
--- opening some items that stand before others
-pub open_then : (c d r o : Items) → open_before (c then d) r o ≡ open_before c (d then r) (open_before d r o)
-open_then Done d r o = refl
-open_then (Do a m is) d r o = ap (Do a m) (then_then is d r)
-open_then (Close ps ds m is) d r o = ap (Close ps ds m) (then_then is d r)
-open_then (If c x y is) d r o = ap (λ z. ask c x y z) (then_then is d r)
-open_then (Loop c n b is) d r o = ap (λ z. ask c (round c n b) Done z) (then_then is d r)
-open_then (Again c n b is) d r o =
-    ap (λ z. open_before n (Loop c n b z) (ask c (round c n b) Done z)) (then_then is d r)
-open_then (DoLoop c b is) d r o =
-    ap (λ z. open_before b (DoAgain c b z) (ask c (do_round c b) Done z)) (then_then is d r)
-open_then (DoAgain c b is) d r o = ap (λ z. ask c (do_round c b) Done z) (then_then is d r)
-open_then (Enter vs ws m is) d r o = ap (Enter vs ws m) (then_then is d r)
-open_then (Leave v vs a m is) d r o = ap (Leave v vs a m) (then_then is d r)
-open_then (Exit v vs e m is) d r o = ap (Exit v vs e m) (then_then is d r)
-
--- Statements
-
--- a statement's items stand before whatever comes
-abbrev pub StandsBefore : (Items → Items) → Type 0
-StandsBefore f = (c r : Items) → f (c then r) ≡ f c then r
-
-closes_then : (ps ds : List ℕ) (m : ℕ) → StandsBefore (closes ps ds m)
-closes_then [] [] m c r = refl
-closes_then [] (d ∷ ds) m c r = refl
-closes_then (p ∷ ps) ds m c r = refl
-
-act_then : (funcs : List Func) (a : Act) (m : ℕ) → StandsBefore (act_items funcs a m)
-act_then funcs (SetPtr to from) m c r = refl
-act_then funcs (SetData to from) m c r = refl
-act_then funcs (Free p) m c r = refl
-act_then funcs Error m c r = refl
-act_then funcs Halt m c r = refl
-act_then funcs (Return operand) m c r = refl
-act_then funcs (LeaveAct f value) m c r = here (slice_get funcs f)
-  where
-    here : (o : Option Func) → leave_items o f value m (c then r) ≡ leave_items o f value m c then r
-    here None = refl
-    here (Some g) = refl
-act_then funcs Break m c r = refl
-act_then funcs Continue m c r = refl
-
-module _ (funcs : List Func) (inside : List Stmt → Items → Items)
-    (bodies : (b : List Stmt) → StandsBefore (inside b)) where
-  abbrev its : Stmt → Items → Items
-  its = items_by funcs inside
-
-  abbrev bare : List ((s : Stmt) × StandsBefore (its s)) → List Stmt
-  bare es = map (λ e. e.0) es
-
-  each_before : (es : List ((s : Stmt) × StandsBefore (its s))) → StandsBefore (all_before (map its (bare es)))
-  each_before [] c r = refl
-  each_before (e ∷ es) c r = ap (its e.0) (each_before es c r) ∙ e.1 (all_before (map its (bare es)) c) r
-
-  call_before : (o : Option Func) (args : List Arg) (to' : Option Dest) (m : ℕ)
-      → StandsBefore (call_items inside o args to' m)
-  call_before None args to' m c r = refl
-  call_before (Some g) args to' m c r = ap (Enter g.params args m) (bodies g.body (Exit g.result g.params to' m c) r)
-
-  layer_before : (y : Stmt-F ((s : Stmt) × StandsBefore (its s)))
-      → StandsBefore
-      (items_step funcs inside
-      (map-Stmt Stmt (Items → Items) its (map-Stmt ((s : Stmt) × StandsBefore (its s)) Stmt (λ e. e.0) y)))
-  layer_before (Do-F a line) c r = act_then funcs a line c r
-  layer_before (Branch-F t x y) c r = refl
-  layer_before (While-F t b) c r = refl
-  layer_before (DoWhile-F t b) c r = refl
-  layer_before (For-F t n b) c r = refl
-  layer_before (Group-F b ps ds m) c r = ap (all_before (map its (bare b))) (closes_then ps ds m c r)
-      ∙ each_before b (closes ps ds m c) r
-  layer_before (Call-F f args to' line) c r = call_before (slice_get funcs f) args to' line c r
-
-  stmt_before : (s : Stmt) → StandsBefore (its s)
-  stmt_before = ind-Stmt (λ s. StandsBefore (its s)) (λ x y is.
-      let here : StandsBefore (items_step funcs inside (map-Stmt Stmt (Items → Items) its x)) =
-      subst (λ z. StandsBefore (items_step funcs inside (map-Stmt Stmt (Items → Items) its z))) is (layer_before y) in
-      λ c r. ap (λ f. f (c then r)) (fold-roll-Stmt (Items → Items) (items_step funcs inside) x) ∙ here c r
-      ∙ ap (λ f. f c then r) (sym (fold-roll-Stmt (Items → Items) (items_step funcs inside) x)))
-
-  all_stand : (ss : List Stmt) → StandsBefore (all_before (map its ss))
-  all_stand [] c r = refl
-  all_stand (s ∷ ss) c r = ap (its s) (all_stand ss c r) ∙ stmt_before s (all_before (map its ss) c) r
-
-body_stands : (funcs : List Func) (n : ℕ) (b : List Stmt) → StandsBefore (body_within funcs n b)
-body_stands funcs zero b c r = refl
-body_stands funcs (suc n) b c r = all_stand funcs (body_within funcs n) (body_stands funcs n) b c r
+-- Statements in turn
 
 pub block_then : (funcs : List Func) (ss : List Stmt) (r : Items)
     → in_order funcs ss Done then r ≡ in_order funcs ss r
 unfolding in_order
-block_then funcs ss r =
-    sym (all_stand funcs (body_within funcs (length funcs)) (body_stands funcs (length funcs)) ss Done r)
-
--- Statements in turn
+block_then funcs ss r = sym (all_stand funcs (length funcs) ss Done r)
 
 pub in_order_none : (funcs : List Func) (r : Items) → in_order funcs [] r ≡ r
 unfolding in_order
@@ -247,12 +142,6 @@ opened-Again funcs c n b r =
     ∙ sym (open_then is (Loop c is b r) Done Done)
     ∙ ap opened (block_then funcs n (Loop c is b r))
 
-pub opened-Loop : (c : Test) (n b r : Items) → opened (Loop c n b r) ≡ opened (If c (round c n b) Done r)
-opened-Loop c n b r = refl
-
-pub opened-DoAgain : (c : Test) (b r : Items) → opened (DoAgain c b r) ≡ opened (If c (do_round c b) Done r)
-opened-DoAgain c b r = refl
-
 -- The side of a condition that is taken, on the stack
 
 pub branch_yes : (sides : Sides) (yes' no' : Body) (b : Bool) (r s : Items) → sides ≡ SideBranch yes' no' → b ≡ true
@@ -332,10 +221,6 @@ weight_push (y ∷ xs) x = omega (arith, weight_push xs x)
 pub through_push : (w : Ways) (xs : List Part) (x : Part) → through w (xs ++ x ∷ []) ≡ narrowed x (through w xs)
 through_push w [] x = refl
 through_push w (y ∷ xs) x = through_push (narrowed y w) xs x
-
--- with one part left
-pub then_if : (c : Test) (w : Ways) (r : Items) → test_before c w Done then r ≡ test_before c w r
-then_if c w r = refl
 
 -- a part taken off
 pub through_parts : (w : Ways) (xs ys : List Part) (x : Part) → xs ≡ ys ++ x ∷ []

@@ -1,7 +1,7 @@
 -- What the machine answers, by how its step went.
 use Rattle.std.proofs.Common.{◌≡◌, ℕ, Some, None, refl, sym, ap, ◌∙◌, subst}
 use Rattle.fore_base.specs.declared.fault.Fault.{Fault as Kind}
-use Rattle.c_types.specs.Steps.{Goes, Stops, Faults, mark_of}
+use Rattle.c_types.specs.Steps.{Stops, Faults, mark_of}
 use Rattle.c_types.specs.Steps as steps
 use Rattle.c_machine.specs.declared.acting.Pace.TheVariants.{Goes as PaceGoes}
 use Rattle.c_machine.specs.declared.state.Turn.TheVariants.{Next, Fault, Ended}

@@ -2,8 +2,7 @@
 //! choices.
 //!
 //! `Machine` takes the steps. `reserve` opens what comes next and makes room, so that `step` takes no memory. `run` is
-//! a loop over it.
-//! What is left to do lies on a stack that borrows the program; a rest of a list is one entry.
+//! a loop over it. What is left to do lies on a stack that borrows the program; a rest of a list is one entry.
 #![tactic(auto)]
 
 mod acting;

@@ -30,8 +30,8 @@ pub enum Turn {
 /// A program on its way: whether its `malloc` may fail, its store and what is left to do.
 ///
 /// `reserve` makes ready what a step needs, and a step then takes no memory. After a fault or the end each step answers
-/// the same again. As long as
-/// the run is not over no cell has leaked, so that only a step that loses a reference to a cell needs the leak test.
+/// the same again. As long as the run is not over no cell has leaked, so that only a step that loses a reference to a
+/// cell needs the leak test.
 #[derive(Drop)]
 pub struct Machine<'p> {
     pub(crate) program: &'p Typed,

@@ -4,12 +4,11 @@ use Rattle.c_ast.specs.declared.items.Head.{Head}
 use Rattle.c_ast.specs.declared.items.Param.{Param}
 use Rattle.c_typing.specs.Globals.{Globals, param_kind, params_of, struct_names}
 use Rattle.c_typing.specs.Scopes.{Scope, Var, begun, declared, opened, param_name, past_head, past_params, past_result}
-use Rattle.c_typing.specs.Scopes.{result_declared, result_of, with_var}
+use Rattle.c_typing.specs.Scopes.{outer, result_declared, result_of, with_var}
 use Rattle.c_typing.specs.Texts.{Text}
+use Rattle.c_typing.proofs.OwnScopes.{outer-declared}
 use Rattle.c_typing.specs.declared.meaning.Kind.{Kind}
 use Rattle.c_typing.specs.declared.meaning.Kind.TheVariants.{Points, Datum}
-use Rattle.c_scopes.specs.InScope.{outer}
-use Rattle.c_making.proofs.ScopeSteps.{outer-declared}
 
 with_none : (v : Var) (bs : List (List Var)) → bs ≡ [] → with_var v bs ≡ []
 with_none v bs e = ap (with_var v) e

@@ -21,7 +21,6 @@ pub fn declarators_of(declare: &Declare) -> &[Declarator]
     ensures { result.now ≡ declarators_of declare.now }
 {
     match declare {
-        Declare::Pointers { vars, .. } => vars.as_slice(),
-        Declare::Datums { vars, .. } => vars.as_slice(),
+        Declare::Pointers { vars, .. } | Declare::Datums { vars, .. } => vars.as_slice(),
     }
 }

@@ -7,9 +7,8 @@ ghost use Rattle.c_typing.specs.Programs.{grouped, next_variable, initialised, d
 ghost use Rattle.c_typing.specs.Programs.{part_stmts, parts_stmts, block_stmts, stmt_stmts, other_stmts, cond_of};
 ghost use Rattle.c_typing.specs.Programs.{return_act};
 ghost use Rattle.c_typing.specs.Scopes.{all_declared, declared, past_declare, past_first, past_part, past_parts};
-ghost use Rattle.c_typing.specs.Scopes.{past_block, past_stmt, past_other, opened};
+ghost use Rattle.c_typing.specs.Scopes.{past_block, past_stmt, past_other, opened, outer};
 ghost use Rattle.c_making.specs.inner.Making.{first_stmts, group_first, for_body, past_for, for_made};
-ghost use Rattle.c_scopes.specs.InScope.{outer};
 
 use crate::calling::return_act;
 use crate::declaring::{declarators_of, kind_of};

@@ -2,7 +2,7 @@
 use Rattle.std.proofs.Common.{◌≡◌, ◌⊎◌, inl, inr, ℕ, zero, suc, Bool, true, false, not, cond, ◌||◌, List, [], ◌∷◌}
 use Rattle.std.proofs.Common.{slice_get, Option, Some, None, refl, sym, ◌∙◌}
 use Rattle.std.specs.Cmp.Lexicographic.{bytes_decides}
-use Rattle.std.proofs.lemmas.Bool.{false≢true, false_from_ne_true}
+use Rattle.std.proofs.lemmas.Bool.{false≢true, false_from_ne_true, or_right}
 use Rattle.fore_base.specs.Lists.{IsIn, IsDistinct}
 use Rattle.fore_base.proofs.NameLemmas.{in_at}
 use Rattle.c_typing.specs.Texts.{Text, same, has, number_of}
@@ -18,11 +18,7 @@ differs x y h = false_from_ne_true (same x y) (λ e. h ((bytes_decides x y).0 e)
 pub has_in : (x : Text) (ns : List Text) → IsIn x ns → has x ns ≡ true
 has_in x [] h = absurd h
 has_in x (n ∷ ns) (inl e) = rw (same_refl x n e) refl
-has_in x (n ∷ ns) (inr h) = or_true (same x n) (has x ns) (has_in x ns h)
-  where
-    or_true : (a b : Bool) → b ≡ true → (a || b) ≡ true
-    or_true true b e = refl
-    or_true false b e = e
+has_in x (n ∷ ns) (inr h) = or_right (same x n) (has x ns) (has_in x ns h)
 
 pub has_out : (x : Text) (ns : List Text) → (IsIn x ns → ⊥) → has x ns ≡ false
 has_out x [] h = refl

@@ -1,4 +1,4 @@
--- The types that a function can return, by their first token, and what is left of them after the first one.
+-- The types that a function can return, and the two forms of parameters, by their first token.
 use Rattle.std.proofs.Common.{false, [], ◌∷◌, refl}
 use Rattle.c_ast.specs.declared.items.ReturnType.{ReturnType}
 use Rattle.c_ast.specs.declared.items.ReturnType.TheVariants as return'
@@ -7,7 +7,8 @@ use Rattle.c_grammar.specs.Items as i
 use Rattle.c_grammar.specs.declared.signs.Sign.TheVariants as sign
 use Rattle.c_grammar.specs.words.Parted.{begins_data}
 use Rattle.c_grammar.specs.words.Sets.{Signs, among, no_sign}
-use Rattle.c_parser.specs.inner.Shapes.{read_data_type, read_pointer_type, read_void_type}
+use Rattle.c_parser.specs.inner.Shapes.{read_data_type, read_datum_param, read_pointer_param, read_pointer_type}
+use Rattle.c_parser.specs.inner.Shapes.{read_void_type}
 use Rattle.c_grammar.proofs.Families.{choice}
 use Rattle.c_grammar.proofs.Goods.{named, good_one, good_at, good_name}
 use Rattle.c_grammar.proofs.Parts.{good_made, first_either}
@@ -34,7 +35,7 @@ good_pointer_type =
     (good_made (good_pair (good_at sign.Struct) (good_pair good_name (good_one sign.Star) refl) refl)
     i.return_pointer_of) refl refl refl
 
--- what is left, what it begins with, and that the two begin apart
+-- what is left after the first type, what it begins with, and that the two begin apart
 abbrev pub after_void : Rule ReturnType
 after_void = choice read_data_type.rule read_pointer_type.rule
 
@@ -49,3 +50,13 @@ good_after_void = either good_data_type good_pointer_type data_apart refl
 
 pub void_apart : Clear voids begins_after_void
 void_apart = refl
+
+pub good_pointer_param : Good read_pointer_param.rule structs no_sign no_sign false
+good_pointer_param = named structs no_sign no_sign
+    (good_made
+    (good_pair (good_at sign.Struct) (good_pair good_name (good_pair (good_one sign.Star) good_name refl) refl) refl)
+    i.pointer_param_of) refl refl refl
+
+pub good_datum_param : Good read_datum_param.rule begins_data no_sign no_sign false
+good_datum_param =
+    named begins_data no_sign no_sign (good_made (good_pair good_data good_name refl) i.datum_param_of) refl refl refl

@@ -5,12 +5,13 @@ ghost use Rattle.c_parser.specs.inner.Shapes.{read_enum_body, read_enum_item, re
 ghost use Rattle.c_parser.specs.inner.Shapes.{read_more_names};
 ghost use Rattle.c_parser.specs.inner.Values.{ValueStep, ValueStops};
 
-use crate::globals::{alone, rest_of_data};
+use crate::globals::{Base, rest_of};
 use c_ast::{Data, Item, Name};
 use c_grammar::{Sign, SyntaxFault};
 use c_lexer::Token;
 use c_operands::name;
 use c_reader::{Bounds, is_next, take};
+use c_statements::{alone, named};
 use fore_base::list::List;
 use fore_base::place::Place;
 use std::alloc::Global;
@@ -100,8 +101,8 @@ fn enum_named<'t>(
     ensures err { IfErr result (Stops (read_enum_named at shape) bounds.now left.now) }
 {
     let (name, rest) = name(alloc, bounds, left)?;
-    let kind = Data::Enum { at, name: shape };
-    let (item, rest) = rest_of_data(alloc, bounds, kind, name, rest)?;
+    let base = Base::Datum(Data::Enum { at, name: shape });
+    let (item, rest) = rest_of(alloc, bounds, base, name, rest)?;
     Ok((item, rest))
 }
 
@@ -135,8 +136,8 @@ pub fn enum_item<'t>(
     ensures shorter { IfOk result (λ r. length r.1.now < length left.now) }
     ensures err { IfErr result (Stops read_enum_item bounds.now left.now) }
 {
-    let (token, rest) = take(bounds, left, Sign::Enum)?;
-    let (shape, rest) = name(alloc, bounds, rest)?;
-    let (item, rest) = enum_rest_of(alloc, bounds, token.at, shape, rest)?;
+    let (head, rest) = named(alloc, bounds, Sign::Enum, left)?;
+    let (at, shape) = head;
+    let (item, rest) = enum_rest_of(alloc, bounds, at, shape, rest)?;
     Ok((item, rest))
 }

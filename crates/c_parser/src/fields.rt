@@ -1,102 +1,71 @@
 // The fields of structs.
 ghost use Rattle.std.specs.Prelude.{length, IfOk, IfErr, ◌<◌, ◌≤◌};
 ghost use Rattle.c_reader.specs.Bounds.{Reads, Stops};
-ghost use Rattle.c_parser.specs.inner.Shapes.{read_braced, read_datum_field, read_field, read_maybe_braced, read_names};
-ghost use Rattle.c_parser.specs.inner.Shapes.{read_next_name, read_next_star, read_pointer_field, read_some_fields};
-ghost use Rattle.c_parser.specs.inner.Shapes.{read_star_name, read_star_names};
+ghost use Rattle.c_parser.specs.inner.Shapes.{read_braced, read_datum_field, read_field, read_field_name};
+ghost use Rattle.c_parser.specs.inner.Shapes.{read_maybe_braced, read_names, read_next_name, read_pointer_field};
+ghost use Rattle.c_parser.specs.inner.Shapes.{read_some_fields};
 
 use c_ast::{Field, Name};
 use c_grammar::{Sign, SyntaxFault};
 use c_lexer::Token;
 use c_operands::name;
 use c_reader::{Bounds, begins_declare, is_next, peek, take};
-use c_statements::data;
+use c_statements::{data, named};
 use fore_base::list::List;
 use std::alloc::Global;
 
-/// `"*" id`
-fn star_name<'t>(
+/// The name of a field, behind a star where it is a pointer: `[ "*" ] id`
+fn field_name<'t>(
     alloc: Global,
     bounds: &Bounds,
+    starred: bool,
     left: &'t [Token],
 ) -> Result<(Name, &'t [Token]), SyntaxFault>
-    ensures ok { IfOk result (λ r. Reads read_star_name bounds.now left.now r.1.now r.0) }
+    ensures ok { IfOk result (λ r. Reads (read_field_name starred) bounds.now left.now r.1.now r.0) }
     ensures shorter { IfOk result (λ r. length r.1.now < length left.now) }
-    ensures err { IfErr result (Stops read_star_name bounds.now left.now) }
+    ensures err { IfErr result (Stops (read_field_name starred) bounds.now left.now) }
 {
+    if !starred {
+        return name(alloc, bounds, left);
+    }
     let (_, rest) = take(bounds, left, Sign::Star)?;
     let (name, rest) = name(alloc, bounds, rest)?;
     Ok((name, rest))
 }
 
-/// `"," "*" id`
-fn next_star<'t>(
-    alloc: Global,
-    bounds: &Bounds,
-    left: &'t [Token],
-) -> Result<(Name, &'t [Token]), SyntaxFault>
-    ensures ok { IfOk result (λ r. Reads read_next_star bounds.now left.now r.1.now r.0) }
-    ensures shorter { IfOk result (λ r. length r.1.now < length left.now) }
-    ensures err { IfErr result (Stops read_next_star bounds.now left.now) }
-{
-    let (_, rest) = take(bounds, left, Sign::Comma)?;
-    let (name, rest) = star_name(alloc, bounds, rest)?;
-    Ok((name, rest))
-}
-
-/// `"*" id { "," "*" id }`
-fn star_names<'t>(
-    alloc: Global,
-    bounds: &Bounds,
-    left: &'t [Token],
-) -> Result<(List<Name>, &'t [Token]), SyntaxFault>
-    ensures ok { IfOk result (λ r. Reads read_star_names bounds.now left.now r.1.now r.0) }
-    ensures shorter { IfOk result (λ r. length r.1.now < length left.now) }
-    ensures err { IfErr result (Stops read_star_names bounds.now left.now) }
-{
-    let mut all = List::new(alloc);
-    let (first, rest) = star_name(alloc, bounds, left)?;
-    all.push(first)?;
-    let mut rest = rest;
-    'stars: while is_next(rest, Sign::Comma) {
-        let (next, after) = next_star(alloc, bounds, rest)?;
-        all.push(next)?;
-        rest = after;
-    }
-    Ok((all, rest))
-}
-
-/// `"," id`
+/// `"," field_name`
 fn next_name<'t>(
     alloc: Global,
     bounds: &Bounds,
+    starred: bool,
     left: &'t [Token],
 ) -> Result<(Name, &'t [Token]), SyntaxFault>
-    ensures ok { IfOk result (λ r. Reads read_next_name bounds.now left.now r.1.now r.0) }
+    ensures ok { IfOk result (λ r. Reads (read_next_name starred) bounds.now left.now r.1.now r.0) }
     ensures shorter { IfOk result (λ r. length r.1.now < length left.now) }
-    ensures err { IfErr result (Stops read_next_name bounds.now left.now) }
+    ensures err { IfErr result (Stops (read_next_name starred) bounds.now left.now) }
 {
     let (_, rest) = take(bounds, left, Sign::Comma)?;
-    let (name, rest) = name(alloc, bounds, rest)?;
+    let (name, rest) = field_name(alloc, bounds, starred, rest)?;
     Ok((name, rest))
 }
 
-/// `id { "," id }`
+/// `field_name { "," field_name }`
 fn names<'t>(
     alloc: Global,
     bounds: &Bounds,
+    starred: bool,
     left: &'t [Token],
 ) -> Result<(List<Name>, &'t [Token]), SyntaxFault>
-    ensures ok { IfOk result (λ r. Reads read_names bounds.now left.now r.1.now r.0) }
+    ensures ok { IfOk result (λ r. Reads (read_names starred) bounds.now left.now r.1.now r.0) }
     ensures shorter { IfOk result (λ r. length r.1.now < length left.now) }
-    ensures err { IfErr result (Stops read_names bounds.now left.now) }
+    ensures err { IfErr result (Stops (read_names starred) bounds.now left.now) }
 {
     let mut all = List::new(alloc);
-    let (first, rest) = name(alloc, bounds, left)?;
+    let (first, rest) = field_name(alloc, bounds, starred, left)?;
     all.push(first)?;
     let mut rest = rest;
     'names: while is_next(rest, Sign::Comma) {
-        let (next, after) = next_name(alloc, bounds, rest)?;
+        let (next, after) = next_name(alloc, bounds, starred, rest)?;
         all.push(next)?;
         rest = after;
     }
@@ -113,15 +82,11 @@ fn pointer_field<'t>(
     ensures shorter { IfOk result (λ r. length r.1.now < length left.now) }
     ensures err { IfErr result (Stops read_pointer_field bounds.now left.now) }
 {
-    let (token, rest) = take(bounds, left, Sign::Struct)?;
-    let (name, rest) = name(alloc, bounds, rest)?;
-    let (fields, rest) = star_names(alloc, bounds, rest)?;
+    let (head, rest) = named(alloc, bounds, Sign::Struct, left)?;
+    let (fields, rest) = names(alloc, bounds, true, rest)?;
     let (_, rest) = take(bounds, rest, Sign::Semicolon)?;
-    let field = Field::Pointers {
-        at: token.at,
-        name,
-        fields,
-    };
+    let (at, name) = head;
+    let field = Field::Pointers { at, name, fields };
     Ok((field, rest))
 }
 
@@ -136,7 +101,7 @@ fn datum_field<'t>(
     ensures err { IfErr result (Stops read_datum_field bounds.now left.now) }
 {
     let (data, rest) = data(alloc, bounds, left)?;
-    let (fields, rest) = names(alloc, bounds, rest)?;
+    let (fields, rest) = names(alloc, bounds, false, rest)?;
     let (_, rest) = take(bounds, rest, Sign::Semicolon)?;
     let field = Field::Datums { data, fields };
     Ok((field, rest))

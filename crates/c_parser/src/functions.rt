@@ -1,16 +1,15 @@
 // Prototypes and functions, from what stands after their name.
 ghost use Rattle.std.specs.Prelude.{length, IfOk, IfErr, ◌<◌};
 ghost use Rattle.c_reader.specs.Bounds.{Reads, Stops};
-ghost use Rattle.c_parser.specs.inner.Shapes.{read_body, read_called, read_data_called, read_ending_of};
-ghost use Rattle.c_parser.specs.inner.Shapes.{read_function_end, read_pointer_called, read_proto_end};
+ghost use Rattle.c_parser.specs.inner.Shapes.{read_body, read_called, read_ending_of, read_function_end};
+ghost use Rattle.c_parser.specs.inner.Shapes.{read_proto_end};
 
 use crate::heads::closed_params;
-use c_ast::{Block, Data, Head, Item, Name, Params, ReturnType};
+use c_ast::{Block, Head, Item, Name, Params, ReturnType};
 use c_grammar::{Sign, SyntaxFault};
 use c_lexer::Token;
 use c_reader::{Bounds, Level, deeper, is_next, take};
 use c_statements::block;
-use fore_base::place::Place;
 use std::alloc::Global;
 
 /// The block of a function, which is a level.
@@ -111,42 +110,5 @@ pub fn called<'t>(
 {
     let (params, rest) = closed_params(alloc, bounds, left)?;
     let (item, rest) = ending_of(alloc, bounds, gives, name, params, rest)?;
-    Ok((item, rest))
-}
-
-/// A prototype or a function that gives data.
-pub fn data_called<'t>(
-    alloc: Global,
-    bounds: &Bounds,
-    kind: Data,
-    name: Name,
-    left: &'t [Token],
-) -> Result<(Item, &'t [Token]), SyntaxFault>
-    requires room { 0 < bounds.now.room }
-    ensures ok { IfOk result (λ r. Reads (read_data_called kind name) bounds.now left.now r.1.now r.0) }
-    ensures shorter { IfOk result (λ r. length r.1.now < length left.now) }
-    ensures err { IfErr result (Stops (read_data_called kind name) bounds.now left.now) }
-{
-    let gives = ReturnType::Data(kind);
-    let (item, rest) = called(alloc, bounds, gives, name, left)?;
-    Ok((item, rest))
-}
-
-/// A prototype or a function that gives a pointer.
-pub fn pointer_called<'t>(
-    alloc: Global,
-    bounds: &Bounds,
-    at: Place,
-    shape: Name,
-    name: Name,
-    left: &'t [Token],
-) -> Result<(Item, &'t [Token]), SyntaxFault>
-    requires room { 0 < bounds.now.room }
-    ensures ok { IfOk result (λ r. Reads (read_pointer_called at shape name) bounds.now left.now r.1.now r.0) }
-    ensures shorter { IfOk result (λ r. length r.1.now < length left.now) }
-    ensures err { IfErr result (Stops (read_pointer_called at shape name) bounds.now left.now) }
-{
-    let gives = ReturnType::Pointer { at, name: shape };
-    let (item, rest) = called(alloc, bounds, gives, name, left)?;
     Ok((item, rest))
 }

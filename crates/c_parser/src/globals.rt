@@ -1,152 +1,92 @@
 // What begins with a type and a name: a declaration at file level, or a prototype or a function.
-ghost use Rattle.std.specs.Prelude.{[], length, IfOk, IfErr, ◌<◌, ◌≤◌, ◌≡◌, ◌∷◌};
+ghost use Rattle.std.specs.Prelude.{length, IfOk, IfErr, ◌<◌, ◌≡◌};
 ghost use Rattle.c_reader.specs.Bounds.{Reads, Stops};
-ghost use Rattle.c_parser.specs.inner.Shapes.{read_declared_data, read_declared_pointers, read_more_declarators};
-ghost use Rattle.c_parser.specs.inner.Shapes.{read_more_pointers, read_rest_of_data, read_rest_of_pointer};
+ghost use Rattle.c_parser.specs.inner.Shapes as shapes;
+ghost use Rattle.c_parser.specs.inner.Shapes.{read_declared_names, read_rest_of};
 
-use crate::functions::{data_called, pointer_called};
-use c_ast::{Data, Declarator, Declare, Item, Name};
+use crate::functions::called;
+use c_ast::{Data, Declarator, Declare, Item, Name, ReturnType};
 use c_grammar::{Sign, SyntaxFault};
 use c_lexer::Token;
 use c_reader::{Bounds, is_next, take};
-use c_statements::{maybe_from, next_declarator, next_pointer};
+use c_statements::{alone, maybe_from, more_declarators};
 use fore_base::list::List;
 use fore_base::place::Place;
-use std::alloc::{AllocError, Global};
+use std::alloc::Global;
 
-/// `{ "," id [ "=" rhs ] }`
-fn more_declarators<'t>(
-    alloc: Global,
-    bounds: &Bounds,
-    left: &'t [Token],
-) -> Result<(List<Declarator>, &'t [Token]), SyntaxFault>
-    ensures ok { IfOk result (λ r. Reads read_more_declarators bounds.now left.now r.1.now r.0) }
-    ensures shorter { IfOk result (λ r. length r.1.now ≤ length left.now) }
-    ensures err { IfErr result (Stops read_more_declarators bounds.now left.now) }
+/// The type that stands before a name: data, or a pointer to a struct.
+#[derive(Drop)]
+pub enum Base {
+    Datum(Data),
+    Pointer { at: Place, name: Name },
+}
+
+/// The names of a declaration stand behind stars.
+fn is_pointer(base: &Base) -> bool
+    ensures { result ≡ shapes.is_pointer base.now }
 {
-    let mut all = List::new(alloc);
-    let mut rest = left;
-    'declarators: while is_next(rest, Sign::Comma) {
-        let (next, after) = next_declarator(alloc, bounds, rest)?;
-        all.push(next)?;
-        rest = after;
+    match base {
+        Base::Datum(_) => false,
+        Base::Pointer { .. } => true,
     }
-    Ok((all, rest))
 }
 
-/// `{ "," "*" id [ "=" rhs ] }`
-fn more_pointers<'t>(
-    alloc: Global,
-    bounds: &Bounds,
-    left: &'t [Token],
-) -> Result<(List<Declarator>, &'t [Token]), SyntaxFault>
-    ensures ok { IfOk result (λ r. Reads read_more_pointers bounds.now left.now r.1.now r.0) }
-    ensures shorter { IfOk result (λ r. length r.1.now ≤ length left.now) }
-    ensures err { IfErr result (Stops read_more_pointers bounds.now left.now) }
+/// What a function gives.
+fn gives_of(base: Base) -> ReturnType
+    ensures { result ≡ shapes.gives_of base }
 {
-    let mut all = List::new(alloc);
-    let mut rest = left;
-    'pointers: while is_next(rest, Sign::Comma) {
-        let (next, after) = next_pointer(alloc, bounds, rest)?;
-        all.push(next)?;
-        rest = after;
+    match base {
+        Base::Datum(data) => ReturnType::Data(data),
+        Base::Pointer { at, name } => ReturnType::Pointer { at, name },
     }
-    Ok((all, rest))
 }
 
-/// A list of one item. What is read next goes behind it, so that no wide value is held meanwhile.
-pub fn alone<T: Drop>(alloc: Global, item: T) -> Result<List<T>, AllocError>
-    ensures { IfOk result (λ all. all ≡ item ∷ []) }
+/// What is declared.
+fn declare_of(base: Base, vars: List<Declarator>) -> Declare
+    ensures { result ≡ shapes.declare_of base vars }
 {
-    let mut all = List::new(alloc);
-    all.push(item)?;
-    Ok(all)
+    match base {
+        Base::Datum(data) => Declare::Datums { data, vars },
+        Base::Pointer { at, name } => Declare::Pointers { at, name, vars },
+    }
 }
 
-/// What stands after the first name of a declaration of data.
-fn declared_data<'t>(
+/// What stands after the first name of a declaration.
+fn declared_names<'t>(
     alloc: Global,
     bounds: &Bounds,
-    kind: Data,
+    base: Base,
     name: Name,
     left: &'t [Token],
 ) -> Result<(Item, &'t [Token]), SyntaxFault>
-    ensures ok { IfOk result (λ r. Reads (read_declared_data kind name) bounds.now left.now r.1.now r.0) }
+    ensures ok { IfOk result (λ r. Reads (read_declared_names base name) bounds.now left.now r.1.now r.0) }
     ensures shorter { IfOk result (λ r. length r.1.now < length left.now) }
-    ensures err { IfErr result (Stops (read_declared_data kind name) bounds.now left.now) }
+    ensures err { IfErr result (Stops (read_declared_names base name) bounds.now left.now) }
 {
     let (from, rest) = maybe_from(alloc, bounds, left)?;
     let mut vars = alone(alloc, Declarator { name, from })?;
-    let (more, rest) = more_declarators(alloc, bounds, rest)?;
+    let (more, rest) = more_declarators(alloc, bounds, is_pointer(&base), rest)?;
     let (_, rest) = take(bounds, rest, Sign::Semicolon)?;
     vars.append(more)?;
-    let declare = Declare::Datums { data: kind, vars };
-    let item = Item::Declare(declare);
+    let item = Item::Declare(declare_of(base, vars));
     Ok((item, rest))
 }
 
-/// What stands after the first name of a declaration of pointers.
-fn declared_pointers<'t>(
+/// What stands after a type and a name.
+pub fn rest_of<'t>(
     alloc: Global,
     bounds: &Bounds,
-    at: Place,
-    shape: Name,
-    name: Name,
-    left: &'t [Token],
-) -> Result<(Item, &'t [Token]), SyntaxFault>
-    ensures ok { IfOk result (λ r. Reads (read_declared_pointers at shape name) bounds.now left.now r.1.now r.0) }
-    ensures shorter { IfOk result (λ r. length r.1.now < length left.now) }
-    ensures err { IfErr result (Stops (read_declared_pointers at shape name) bounds.now left.now) }
-{
-    let (from, rest) = maybe_from(alloc, bounds, left)?;
-    let mut vars = alone(alloc, Declarator { name, from })?;
-    let (more, rest) = more_pointers(alloc, bounds, rest)?;
-    let (_, rest) = take(bounds, rest, Sign::Semicolon)?;
-    vars.append(more)?;
-    let declare = Declare::Pointers {
-        at,
-        name: shape,
-        vars,
-    };
-    let item = Item::Declare(declare);
-    Ok((item, rest))
-}
-
-/// What stands after data and a name.
-pub fn rest_of_data<'t>(
-    alloc: Global,
-    bounds: &Bounds,
-    kind: Data,
+    base: Base,
     name: Name,
     left: &'t [Token],
 ) -> Result<(Item, &'t [Token]), SyntaxFault>
     requires room { 0 < bounds.now.room }
-    ensures ok { IfOk result (λ r. Reads (read_rest_of_data kind name) bounds.now left.now r.1.now r.0) }
+    ensures ok { IfOk result (λ r. Reads (read_rest_of base name) bounds.now left.now r.1.now r.0) }
     ensures shorter { IfOk result (λ r. length r.1.now < length left.now) }
-    ensures err { IfErr result (Stops (read_rest_of_data kind name) bounds.now left.now) }
+    ensures err { IfErr result (Stops (read_rest_of base name) bounds.now left.now) }
 {
     if is_next(left, Sign::Open) {
-        return data_called(alloc, bounds, kind, name, left);
+        return called(alloc, bounds, gives_of(base), name, left);
     }
-    declared_data(alloc, bounds, kind, name, left)
-}
-
-/// What stands after a pointer and a name.
-pub fn rest_of_pointer<'t>(
-    alloc: Global,
-    bounds: &Bounds,
-    at: Place,
-    shape: Name,
-    name: Name,
-    left: &'t [Token],
-) -> Result<(Item, &'t [Token]), SyntaxFault>
-    requires room { 0 < bounds.now.room }
-    ensures ok { IfOk result (λ r. Reads (read_rest_of_pointer at shape name) bounds.now left.now r.1.now r.0) }
-    ensures shorter { IfOk result (λ r. length r.1.now < length left.now) }
-    ensures err { IfErr result (Stops (read_rest_of_pointer at shape name) bounds.now left.now) }
-{
-    if is_next(left, Sign::Open) {
-        return pointer_called(alloc, bounds, at, shape, name, left);
-    }
-    declared_pointers(alloc, bounds, at, shape, name, left)
+    declared_names(alloc, bounds, base, name, left)
 }

@@ -11,7 +11,7 @@ use c_grammar::{Sign, SyntaxFault};
 use c_lexer::Token;
 use c_operands::name;
 use c_reader::{Bounds, begins_data, begins_params, is_next, peek, take};
-use c_statements::data;
+use c_statements::{data, named};
 use fore_base::list::List;
 use std::alloc::Global;
 
@@ -25,15 +25,11 @@ fn pointer_param<'t>(
     ensures shorter { IfOk result (λ r. length r.1.now < length left.now) }
     ensures err { IfErr result (Stops read_pointer_param bounds.now left.now) }
 {
-    let (token, rest) = take(bounds, left, Sign::Struct)?;
-    let (shape, rest) = name(alloc, bounds, rest)?;
+    let (head, rest) = named(alloc, bounds, Sign::Struct, left)?;
     let (_, rest) = take(bounds, rest, Sign::Star)?;
-    let (variable, rest) = name(alloc, bounds, rest)?;
-    let param = Param::Pointer {
-        at: token.at,
-        shape,
-        name: variable,
-    };
+    let (name, rest) = name(alloc, bounds, rest)?;
+    let (at, shape) = head;
+    let param = Param::Pointer { at, shape, name };
     Ok((param, rest))
 }
 
@@ -228,13 +224,10 @@ fn pointer_type<'t>(
     ensures shorter { IfOk result (λ r. length r.1.now < length left.now) }
     ensures err { IfErr result (Stops read_pointer_type bounds.now left.now) }
 {
-    let (token, rest) = take(bounds, left, Sign::Struct)?;
-    let (shape, rest) = name(alloc, bounds, rest)?;
+    let (head, rest) = named(alloc, bounds, Sign::Struct, left)?;
     let (_, rest) = take(bounds, rest, Sign::Star)?;
-    let gives = ReturnType::Pointer {
-        at: token.at,
-        name: shape,
-    };
+    let (at, name) = head;
+    let gives = ReturnType::Pointer { at, name };
     Ok((gives, rest))
 }
 

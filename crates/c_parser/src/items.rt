@@ -8,13 +8,14 @@ ghost use Rattle.c_parser.specs.inner.Shapes.{read_void_item};
 use crate::enums::enum_item;
 use crate::fields::maybe_braced;
 use crate::functions::called;
-use crate::globals::{rest_of_data, rest_of_pointer};
+use crate::globals::{Base, rest_of};
 use crate::heads::head;
 use c_ast::{Data, Item, Name, ReturnType};
 use c_grammar::{Sign, SyntaxFault};
 use c_lexer::Token;
 use c_operands::name;
 use c_reader::{Bounds, begins_ending, begins_item, is_next, peek, take};
+use c_statements::named;
 use fore_base::list::List;
 use fore_base::place::Place;
 use std::alloc::Global;
@@ -56,7 +57,8 @@ fn star_rest<'t>(
 {
     let (_, rest) = take(bounds, left, Sign::Star)?;
     let (name, rest) = name(alloc, bounds, rest)?;
-    let (item, rest) = rest_of_pointer(alloc, bounds, at, shape, name, rest)?;
+    let base = Base::Pointer { at, name: shape };
+    let (item, rest) = rest_of(alloc, bounds, base, name, rest)?;
     Ok((item, rest))
 }
 
@@ -110,9 +112,9 @@ fn void_item<'t>(
     ensures shorter { IfOk result (λ r. length r.1.now < length left.now) }
     ensures err { IfErr result (Stops read_void_item bounds.now left.now) }
 {
-    let (token, rest) = take(bounds, left, Sign::Void)?;
-    let (name, rest) = name(alloc, bounds, rest)?;
-    let gives = ReturnType::Void { at: token.at };
+    let (head, rest) = named(alloc, bounds, Sign::Void, left)?;
+    let (at, name) = head;
+    let gives = ReturnType::Void { at };
     let (item, rest) = called(alloc, bounds, gives, name, rest)?;
     Ok((item, rest))
 }
@@ -128,10 +130,10 @@ fn int_item<'t>(
     ensures shorter { IfOk result (λ r. length r.1.now < length left.now) }
     ensures err { IfErr result (Stops read_int_item bounds.now left.now) }
 {
-    let (token, rest) = take(bounds, left, Sign::Int)?;
-    let (name, rest) = name(alloc, bounds, rest)?;
-    let kind = Data::Int { at: token.at };
-    let (item, rest) = rest_of_data(alloc, bounds, kind, name, rest)?;
+    let (head, rest) = named(alloc, bounds, Sign::Int, left)?;
+    let (at, name) = head;
+    let base = Base::Datum(Data::Int { at });
+    let (item, rest) = rest_of(alloc, bounds, base, name, rest)?;
     Ok((item, rest))
 }
 
@@ -146,9 +148,9 @@ fn struct_item<'t>(
     ensures shorter { IfOk result (λ r. length r.1.now < length left.now) }
     ensures err { IfErr result (Stops read_struct_item bounds.now left.now) }
 {
-    let (token, rest) = take(bounds, left, Sign::Struct)?;
-    let (shape, rest) = name(alloc, bounds, rest)?;
-    let (item, rest) = struct_rest_of(alloc, bounds, token.at, shape, rest)?;
+    let (head, rest) = named(alloc, bounds, Sign::Struct, left)?;
+    let (at, shape) = head;
+    let (item, rest) = struct_rest_of(alloc, bounds, at, shape, rest)?;
     Ok((item, rest))
 }
 

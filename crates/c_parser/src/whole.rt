@@ -20,12 +20,10 @@ use fore_base::place::Place;
 use std::alloc::Global;
 
 /// The tree of a list of tokens, where `end` is the place after the last byte. The tokens are gone through once, lists
-/// without recursion;
-/// the recursion goes no deeper than 64 levels.
+/// without recursion; the recursion goes no deeper than 64 levels.
 ///
 /// Errors: `Refused` at the first token that no program may have, wherever another fault stands; else `Syntax` at the
-/// hopeless token, or
-/// `Deep` at the token that opens level 65, whichever comes first; `Memory` for want of memory.
+/// hopeless token, or `Deep` at the token that opens level 65, whichever comes first; `Memory` for want of memory.
 pub fn parse(alloc: Global, tokens: &[Token], end: Place) -> Result<Unit, SyntaxFault>
     ensures ok { IfOk result (IsParsed tokens.now end) }
     ensures err { IfErr result (IsFault tokens.now end) }

@@ -29,7 +29,7 @@ use Rattle.c_cfg.specs.LoopFree.{has_no_loop}
 use Rattle.c_cfg.specs.Lowering.{LowerOf, IsWay, IsTestRow, IsAtomRow, IsRow, edge, followed_by}
 use Rattle.c_cfg.specs.Places.{test_places, places}
 use Rattle.c_cfg.proofs.FreeOfLoops.{free_graph}
-use Rattle.c_cfg.proofs.Opening.{open_then}
+use Rattle.c_types.proofs.Standing.{open_then}
 use Rattle.c_prefixes.specs.Prefixes.{paths_from}
 use Rattle.c_prefixes.proofs.FreeItems.{IsFree, then_free, none_after, none_from, free_items}
 use Rattle.c_prefixes.proofs.ItemCounts.{act_after, act_same, atom_count, count_remarked, counts, exits_from, row_count}

@@ -1,6 +1,6 @@
 -- The variables that each kind of statement declares.
 use Rattle.std.proofs.Common.{◌≡◌, ℕ, List, [], ◌∷◌, ◌++◌, Option, map, refl, ap, sym}
-use Rattle.std.proofs.Common.{◌∙◌, append_assoc}
+use Rattle.std.proofs.Common.{◌∙◌, append_assoc, append-nil}
 use Rattle.c_types.specs.Bodies.{body_declares, declares_step, in_turn, stmt_declares}
 use Rattle.c_types.specs.declared.program.Act.{Act}
 use Rattle.c_types.specs.declared.program.Arg.{Arg}
@@ -57,8 +57,7 @@ pub appended : (xs ys zs : List VarRef) → xs ++ (ys ++ zs) ≡ (xs ++ ys) ++ z
 appended xs ys zs = sym (append_assoc xs ys zs)
 
 pub appended-none : (xs : List VarRef) → xs ++ [] ≡ xs
-appended-none [] = refl
-appended-none (x ∷ xs) = ap (λ (ys : List VarRef). x ∷ ys) (appended-none xs)
+appended-none xs = append-nil xs
 
 pub ruleset declare_layers = (
   appended,

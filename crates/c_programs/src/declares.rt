@@ -51,8 +51,7 @@ fn add_stmt(stmt: &Stmt, found: &mut List<VarRef>) -> Mem<()>
             add_body(yes.as_slice(), found)?;
             add_body(no.as_slice(), found)
         }
-        Stmt::While { body, .. } => add_body(body.as_slice(), found),
-        Stmt::DoWhile { body, .. } => add_body(body.as_slice(), found),
+        Stmt::While { body, .. } | Stmt::DoWhile { body, .. } => add_body(body.as_slice(), found),
         Stmt::For { next, body, .. } => {
             add_body(next.as_slice(), found)?;
             add_body(body.as_slice(), found)

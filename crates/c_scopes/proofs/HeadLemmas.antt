@@ -1,6 +1,6 @@
 -- Parameters that are declared one after the other.
 use Rattle.std.proofs.Common.{◌≡◌, ℕ, ◌+◌, ◌<◌, ◌≤◌, List, [], ◌∷◌, ◌++◌, length, get_or, drop, refl, sym, ap}
-use Rattle.std.proofs.Common.{◌∙◌, append_assoc}
+use Rattle.std.proofs.Common.{◌∙◌, append_assoc, append-nil}
 use Rattle.std.proofs.lemmas.List.{drop_all}
 use Rattle.fore_base.proofs.ListLemmas.{drop_item}
 use Rattle.c_ast.specs.declared.items.Param.{Param}
@@ -33,8 +33,4 @@ module _ (g : Globals) (params : List Param) (i : ℕ) where
   pub refs_over : (refs : List VarRef) (scope : Scope) → length params ≤ i
       → refs ++ param_refs g (drop i params) scope ≡ refs
   refs_over refs scope past =
-      ap (λ (ps : List Param). refs ++ param_refs g ps scope) (drop_all i params past) ∙ append_none refs
-    where
-      append_none : (rs : List VarRef) → rs ++ [] ≡ rs
-      append_none [] = refl
-      append_none (r ∷ rs) = ap (λ (ss : List VarRef). r ∷ ss) (append_none rs)
+      ap (λ (ps : List Param). refs ++ param_refs g ps scope) (drop_all i params past) ∙ append-nil refs

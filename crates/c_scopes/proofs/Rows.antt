@@ -1,11 +1,11 @@
 -- Worked values of what is found in a scope, and of the scope that a table stands for, by hand. The names are a and b.
 use Rattle.std.proofs.Common.{◌≡◌, ℕ, [], ◌∷◌, List, Some, None, refl}
 use Rattle.c_types.specs.declared.program.VarDef.{VarDef}
-use Rattle.c_typing.specs.Scopes.{Scope, Var}
+use Rattle.c_typing.specs.Scopes.{Scope, Var, outer}
 use Rattle.c_typing.specs.Texts.{Text}
 use Rattle.c_typing.specs.declared.meaning.Kind.{Kind}
 use Rattle.c_typing.specs.declared.meaning.Kind.TheVariants.{Points, Datum}
-use Rattle.c_scopes.specs.InScope.{found_as, left, next_number, outer}
+use Rattle.c_scopes.specs.InScope.{found_as, left, next_number}
 use Rattle.c_scopes.specs.ScopeTables.{scope_of}
 use Rattle.c_scopes.specs.declared.scopes.Entry.{Entry}
 use Rattle.c_scopes.specs.declared.scopes.Meant.{Meant}

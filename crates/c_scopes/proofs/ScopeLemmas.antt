@@ -6,7 +6,7 @@ use Rattle.std.specs.Cmp.Lexicographic.{pointwise, same_text}
 use Rattle.std.proofs.Math.Dec.{eqb-suc-zero}
 use Rattle.std.proofs.lemmas.Bool.{eq-eqb, eqb-true, false_from_ne_true}
 use Rattle.std.proofs.lemmas.List.{length-set, set-get_or, get_or-set_same, get_or-set_other, get_or_append_left}
-use Rattle.std.proofs.lemmas.List.{reverse-append, length-map, length-reverse}
+use Rattle.std.proofs.lemmas.List.{reverse-append, length-map, length-reverse, map-append, set-append_left}
 use Rattle.std.proofs.lemmas.Option.{get_or_from_slice_get, slice_get-get_or}
 use Rattle.fore_base.specs.Lists.{IsIn, Every, IsDistinct}
 use Rattle.fore_base.proofs.ListLemmas.{in_from_place, every_append, every_parts, every_weaker}
@@ -33,12 +33,6 @@ past_default [] d (suc n) = refl
 past_default (x ∷ xs) d zero = refl
 past_default (x ∷ xs) d (suc n) = past_default xs d n
 
-pub set_before : {X : Type 0} (xs ys : List X) (k : ℕ) (x : X) → k < length xs → slice_set (xs ++ ys) k x
-    ≡ slice_set xs k x ++ ys
-set_before [] ys k x within = absurd (omega arith)
-set_before (z ∷ zs) ys zero x within = refl
-set_before (z ∷ zs) ys (suc k) x within = ap (λ ws. z ∷ ws) (set_before zs ys k x (omega arith))
-
 pub set_again : {X : Type 0} (xs : List X) (k : ℕ) (x y : X) → slice_set (slice_set xs k x) k y ≡ slice_set xs k y
 set_again [] k x y = refl
 set_again (z ∷ zs) zero x y = refl
@@ -60,6 +54,29 @@ one_number (n ∷ ns) zero (suc j) x d f g =
 one_number (n ∷ ns) (suc i) zero x d f g =
     absurd (d.0 (subst (λ z. IsIn z ns) (let e : x ≡ n = cc in e) (in_from_place ns i x f)))
 one_number (n ∷ ns) (suc i) (suc j) x d f g = ap suc (one_number ns i j x d.1 f g)
+
+-- what stands at the number of a name is the name
+own_name : (names : List (List ℕ)) (k n : ℕ) (text : List ℕ) → slice_get names n ≡ Some text → nat_eq k n ≡ true
+    → pointwise nat_eq text (slice_index_or names k []) ≡ true
+own_name names k n text is same =
+    let spelled : slice_index_or names k [] ≡ text =
+    get_or_from_slice_get names k text [] (subst (λ j. slice_get names j ≡ Some text) (sym (eqb-true k n same)) is) in
+    rw (spelled) (text_is_itself text)
+
+-- at another number stands another name
+other_name : (names : List (List ℕ)) (k n : ℕ) (text : List ℕ) → IsDistinct names → slice_get names n ≡ Some text
+    → k < length names → nat_eq k n ≡ false → pointwise nat_eq text (slice_index_or names k []) ≡ false
+other_name names k n text d is within apart = false_from_ne_true _ (λ t.
+    let same : slice_index_or names k [] ≡ text = sym (same_text text _ (sym t)) in
+    true≢false
+    (sym (eq-eqb k n (one_number names k n text d (slice_get-get_or names k [] within ∙ ap Some same) is)) ∙ apart))
+
+-- an absent name stands nowhere
+absent_name : (names : List (List ℕ)) (k : ℕ) (text : List ℕ) → (IsIn text names → ⊥) → k < length names
+    → pointwise nat_eq text (slice_index_or names k []) ≡ false
+absent_name names k text absent within = false_from_ne_true _ (λ t.
+    let same : slice_index_or names k [] ≡ text = sym (same_text text _ (sym t)) in
+    absent (in_from_place names k text (slice_get-get_or names k [] within ∙ ap Some same)))
 
 -- the newest entry of a number
 abbrev pub numbered : ℕ → List Entry → Option Meant
@@ -86,35 +103,19 @@ pub names_find : (names : List (List ℕ)) (n : ℕ) (text : List ℕ) (es : Lis
 names_find names n text [] d is named = refl
 names_find names n text (e ∷ es) d is named = here (nat_eq e.name n) refl (names_find names n text es d is named.1)
   where
-    spelled : slice_get names e.name ≡ Some (slice_index_or names e.name [])
-    spelled = slice_get-get_or names e.name [] named.0
-
     here : (b : Bool) → nat_eq e.name n ≡ b → found_as (var_in text (vars_of names es)) ≡ what_of (numbered n es) →
         found_as
         (cond (pointwise nat_eq text (slice_index_or names e.name [])) (Some (var_of names e))
         (var_in text (vars_of names es))) ≡ what_of (if b then Some e.meant else numbered n es)
-    here true is_n rest =
-        let same : slice_index_or names e.name [] ≡ text =
-        get_or_from_slice_get names e.name text []
-        (subst (λ k. slice_get names k ≡ Some text) (sym (eqb-true e.name n is_n)) is) in
-        rw (same, text_is_itself text) refl
-    here false is_n rest = rw (other) rest
-      where
-        other : pointwise nat_eq text (slice_index_or names e.name []) ≡ false
-        other = false_from_ne_true _ (λ t.
-            let same : slice_index_or names e.name [] ≡ text = sym (same_text text _ (sym t)) in
-            true≢false (sym (eq-eqb e.name n (one_number names e.name n text d (spelled ∙ ap Some same) is)) ∙ is_n))
+    here true is_n rest = rw (own_name names e.name n text is is_n) refl
+    here false is_n rest = rw (other_name names e.name n text d is named.0 is_n) rest
 
 -- a name without a number has no variable
 pub none_finds : (names : List (List ℕ)) (text : List ℕ) (es : List Entry) → (IsIn text names → ⊥)
     → Every (λ e. e.name < length names) es → var_in text (vars_of names es) ≡ None
 none_finds names text [] absent named = refl
-none_finds names text (e ∷ es) absent named = rw (other) (none_finds names text es absent named.1)
-  where
-    other : pointwise nat_eq text (slice_index_or names e.name []) ≡ false
-    other = false_from_ne_true _ (λ t.
-        let same : slice_index_or names e.name [] ≡ text = sym (same_text text _ (sym t)) in
-        absent (in_from_place names e.name text (slice_get-get_or names e.name [] named.0 ∙ ap Some same)))
+none_finds names text (e ∷ es) absent named =
+    rw (absent_name names e.name text absent named.0) (none_finds names text es absent named.1)
 
 -- all variables in scope
 pub all_vars : (names : List (List ℕ)) (bs : List (List Entry)) → joined (map (vars_of names) bs)
@@ -122,10 +123,6 @@ pub all_vars : (names : List (List ℕ)) (bs : List (List Entry)) → joined (ma
 all_vars names [] = refl
 all_vars names (b ∷ bs) = ap (λ vs. vars_of names b ++ vs) (all_vars names bs)
     ∙ sym (map-append (var_of names) b (flat bs))
-  where
-    map-append : {X Y : Type 0} (f : X → Y) (xs ys : List X) → map f (xs ++ ys) ≡ map f xs ++ map f ys
-    map-append f [] ys = refl
-    map-append f (x ∷ xs) ys = ap (λ zs. f x ∷ zs) (map-append f xs ys)
 
 -- what a table finds at a number
 pub table_finds : (t : Table) (n : ℕ) (text : List ℕ) → IsKept t → IsDistinct t.names → slice_get t.names n ≡ Some text
@@ -148,7 +145,7 @@ chained_push : (es : List Entry) (meant : List (Option Meant)) → Every (λ e. 
 chained_push [] meant within h = λ n. past_default meant None n ∙ h n
 chained_push (e ∷ es) meant within h = (
   past_default meant None e.name ∙ h.0,
-  subst (Chained es) (sym (set_before meant (None ∷ []) e.name e.under within.0))
+  subst (Chained es) (sym (set-append_left meant (None ∷ []) e.name e.under within.0))
       (chained_push es (slice_set meant e.name e.under)
       (subst (λ k. Every (λ f. f.name < k) es) (sym (length-set meant e.name e.under)) within.1) h.1),
 )
@@ -281,21 +278,8 @@ numbered-append_at names n k text (e ∷ b) es d is named at none =
         →
         is_at (if c then Some e.meant else numbered n (b ++ es)) k
         ≡ (pointwise nat_eq text (slice_index_or names e.name []) || has text (map var_name (vars_of names b)))
-    here true is_n rest =
-        let same : slice_index_or names e.name [] ≡ text =
-        get_or_from_slice_get names e.name text []
-        (subst (λ j. slice_get names j ≡ Some text) (sym (eqb-true e.name n is_n)) is) in
-        rw (same, text_is_itself text) (eq-eqb e.meant.block k at.0)
-    here false is_n rest = rw (other) rest
-      where
-        other : pointwise nat_eq text (slice_index_or names e.name []) ≡ false
-        other = false_from_ne_true _ (λ t.
-            let same : slice_index_or names e.name [] ≡ text = sym (same_text text _ (sym t)) in
-            true≢false
-            (sym
-            (eq-eqb e.name n
-            (one_number names e.name n text d (slice_get-get_or names e.name [] named.0 ∙ ap Some same) is))
-            ∙ is_n))
+    here true is_n rest = rw (own_name names e.name n text is is_n) (eq-eqb e.meant.block k at.0)
+    here false is_n rest = rw (other_name names e.name n text d is named.0 is_n) rest
 
 below_at : (n k : ℕ) (es : List Entry) → Every (λ e. e.meant.block < k) es → is_at (numbered n es) k ≡ false
 below_at n k [] h = refl
@@ -476,12 +460,8 @@ put_back (b ∷ bs) (suc k) old h = ap (λ cs. b ∷ cs) (put_back bs k old h)
 none_taken : (names : List (List ℕ)) (text : List ℕ) (es : List Entry) → (IsIn text names → ⊥)
     → Every (λ e. e.name < length names) es → has text (map var_name (vars_of names es)) ≡ false
 none_taken names text [] absent named = refl
-none_taken names text (e ∷ es) absent named = rw (other) (none_taken names text es absent named.1)
-  where
-    other : pointwise nat_eq text (slice_index_or names e.name []) ≡ false
-    other = false_from_ne_true _ (λ t.
-        let same : slice_index_or names e.name [] ≡ text = sym (same_text text _ (sym t)) in
-        absent (in_from_place names e.name text (slice_get-get_or names e.name [] named.0 ∙ ap Some same)))
+none_taken names text (e ∷ es) absent named =
+    rw (absent_name names e.name text absent named.0) (none_taken names text es absent named.1)
 
 pub not_taken : (t : Table) (text : List ℕ) → IsKept t → (IsIn text t.names → ⊥)
     → false ≡ has text (map var_name (innermost (scope_of t).blocks))

@@ -2,7 +2,7 @@
 -- begins.
 use Rattle.std.specs.Prelude.{ℕ, List, [], ◌∷◌, Option, Some, None, length}
 use Rattle.c_types.specs.declared.program.VarDef.{VarDef}
-use Rattle.c_typing.specs.Scopes.{Scope, Var}
+use Rattle.c_typing.specs.Scopes.{Scope, Var, outer}
 use Rattle.c_typing.specs.declared.meaning.Kind.{Kind}
 use Rattle.c_typing.specs.declared.meaning.Kind.TheVariants.{Points, Datum}
 use Rattle.c_scopes.specs.declared.scopes.Found.{Found}
@@ -20,11 +20,6 @@ next_number Datum vars data_vars = length data_vars
 -- In the function of this number, or in none; no block is open. What was declared stays declared.
 abbrev pub moved : Option ℕ → Scope → Scope
 moved home scope = record { home = home; blocks = []; vars = scope.vars; data_vars = scope.data_vars }
-
--- all blocks but the innermost one
-abbrev pub outer : {X : Type 0} → List (List X) → List (List X)
-outer [] = []
-outer (b ∷ bs) = bs
 
 -- the innermost block is closed; what was declared in it stays declared
 abbrev pub left : Scope → Scope

@@ -39,8 +39,7 @@ pub fn param_name(param: &Param) -> &Name
     ensures { result.now ≡ param_name param.now }
 {
     match param {
-        Param::Pointer { name, .. } => name,
-        Param::Datum { name, .. } => name,
+        Param::Pointer { name, .. } | Param::Datum { name, .. } => name,
     }
 }
 

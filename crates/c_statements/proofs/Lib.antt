@@ -1,3 +1,6 @@
 pub mod Alternatives
+mod DeclareForms
+pub mod Declarators
 mod FlatForms
 mod NestedForms
+pub mod Words

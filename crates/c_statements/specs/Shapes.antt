@@ -1,7 +1,8 @@
 -- What the functions of statements and items read: rules, with the signs that can continue them.
-use Rattle.std.specs.Prelude.{List, Option}
+use Rattle.std.specs.Prelude.{Bool, true, false, List, Option}
 use Rattle.fore_base.specs.declared.place.Place.{Place}
 use Rattle.c_ast.specs.declared.conditions.Cond.{Cond}
+use Rattle.c_ast.specs.declared.operands.Name.{Name}
 use Rattle.c_ast.specs.declared.operands.Operand.{Operand}
 use Rattle.c_ast.specs.declared.simples.Rhs.{Rhs}
 use Rattle.c_ast.specs.declared.simples.Simple.{Simple}
@@ -17,15 +18,20 @@ use Rattle.c_ast.specs.declared.statements.Part.TheVariants as part'
 use Rattle.c_ast.specs.declared.statements.Stmt.{Stmt}
 use Rattle.c_ast.specs.declared.statements.Stmt.TheVariants as stmt'
 use Rattle.c_lexer.specs.declared.token.Token.{Token}
-use Rattle.c_grammar.specs.Grammar.{token, empty, ◌then◌, ◌or◌, Many, Made}
+use Rattle.c_grammar.specs.Grammar.{Rule, token, empty, ◌then◌, ◌or◌, Many, Made}
 use Rattle.c_grammar.specs.Signs.{or_on}
 use Rattle.c_grammar.specs.Syntax as s
+use Rattle.c_grammar.specs.declared.signs.Sign.{Sign}
 use Rattle.c_grammar.specs.declared.signs.Sign.TheVariants as sign
 use Rattle.c_grammar.specs.words.Parted.{declarator_goes_on, declarators_go_on, begins_part, begins_level}
 use Rattle.c_grammar.specs.words.Parted.{simple_goes_on, maybe_cond_goes_on, for_head}
 use Rattle.c_grammar.specs.words.Sets.{no_sign, elses, operand_goes_on, begins_nested}
 use Rattle.c_grammar.specs.words.Sets.{begins_operand}
 use Rattle.c_grammar.specs.words.Shapes.{Shape}
+
+-- a word, and a name behind it
+abbrev pub read_named : Sign → Shape (Place × Name)
+read_named word = record { rule = λ n. s.at word then s.name; cont = no_sign; bars = no_sign; heads = no_sign }
 
 abbrev pub read_int_data : Shape Data
 read_int_data = record { rule = λ n. Made data'.Int (s.at sign.Int); cont = no_sign; bars = no_sign; heads = no_sign }
@@ -57,42 +63,38 @@ read_maybe_from = record {
 abbrev pub read_declarator : Shape Declarator
 read_declarator = record { rule = s.declarator; cont = declarator_goes_on; bars = no_sign; heads = no_sign }
 
-abbrev pub read_star_declarator : Shape Declarator
-read_star_declarator = record {
-  rule = λ n. Made s.second (token sign.Star then s.declarator n);
+-- a declarator with what it starts with, behind a star where pointers are declared
+abbrev pub init_declarator : Bool → Rule Declarator
+init_declarator true = λ n. Made s.second (token sign.Star then s.declarator n)
+init_declarator false = s.declarator
+
+abbrev pub read_init_declarator : Bool → Shape Declarator
+read_init_declarator starred =
+    record { rule = init_declarator starred; cont = declarator_goes_on; bars = no_sign; heads = no_sign }
+
+abbrev pub read_next_declarator : Bool → Shape Declarator
+read_next_declarator starred = record {
+  rule = λ n. Made s.second (token sign.Comma then init_declarator starred n);
   cont = declarator_goes_on;
   bars = no_sign;
   heads = no_sign;
 }
 
-abbrev pub read_next_declarator : Shape Declarator
-read_next_declarator = record {
-  rule = λ n. Made s.second (token sign.Comma then s.declarator n);
-  cont = declarator_goes_on;
+abbrev pub read_more_declarators : Bool → Shape (List Declarator)
+read_more_declarators starred = record {
+  rule = λ n. Many (Made s.second (token sign.Comma then init_declarator starred n));
+  cont = declarators_go_on;
   bars = no_sign;
   heads = no_sign;
 }
 
-abbrev pub read_next_pointer : Shape Declarator
-read_next_pointer = record {
-  rule = λ n. Made s.second (token sign.Comma then Made s.second (token sign.Star then s.declarator n));
-  cont = declarator_goes_on;
+abbrev pub read_declarators : Bool → Shape (List Declarator)
+read_declarators starred = record {
+  rule = λ n. s.series sign.Comma (init_declarator starred n);
+  cont = declarators_go_on;
   bars = no_sign;
   heads = no_sign;
 }
-
-abbrev pub read_declarators : Shape (List Declarator)
-read_declarators = record
-    { rule = λ n. s.series sign.Comma (s.declarator n); cont = declarators_go_on; bars = no_sign; heads = no_sign }
-
-abbrev pub read_pointers : Shape (List Declarator)
-read_pointers =
-    record {
-      rule = λ n. s.series sign.Comma (Made s.second (token sign.Star then s.declarator n));
-      cont = declarators_go_on;
-      bars = no_sign;
-      heads = no_sign;
-    }
 
 abbrev pub read_pointer_declare : Shape Declare
 read_pointer_declare = record {
@@ -205,13 +207,10 @@ read_maybe_simple = record
 abbrev pub read_stmt : Shape Stmt
 read_stmt = record { rule = s.stmt; cont = no_sign; bars = elses; heads = begins_level }
 
-abbrev pub read_if_head : Shape (Place × Cond)
-read_if_head =
-    record { rule = λ n. s.at sign.If then s.bracketed (s.cond n); cont = no_sign; bars = no_sign; heads = no_sign }
-
-abbrev pub read_while_head : Shape (Place × Cond)
-read_while_head = record
-    { rule = λ n. s.at sign.While then s.bracketed (s.cond n); cont = no_sign; bars = no_sign; heads = no_sign }
+-- a word, and a condition in brackets behind it
+abbrev pub read_tested : Sign → Shape (Place × Cond)
+read_tested word =
+    record { rule = λ n. s.at word then s.bracketed (s.cond n); cont = no_sign; bars = no_sign; heads = no_sign }
 
 abbrev pub read_for_head : Shape (Place × First × Option Cond × Option Simple)
 read_for_head = record { rule = for_head; cont = no_sign; bars = no_sign; heads = no_sign }

@@ -1,19 +1,38 @@
 // Declarations.
-ghost use Rattle.std.specs.Prelude.{length, IfOk, IfErr, ◌<◌, ◌≤◌};
+ghost use Rattle.std.specs.Prelude.{[], length, IfOk, IfErr, ◌<◌, ◌≤◌, ◌≡◌, ◌≢◌, ◌∷◌};
+ghost use Rattle.c_grammar.specs.declared.signs.Sign.TheVariants.{End};
 ghost use Rattle.c_reader.specs.Bounds.{Reads, Stops};
 ghost use Rattle.c_statements.specs.Shapes.{read_data, read_datum_declare, read_declarator, read_declarators};
-ghost use Rattle.c_statements.specs.Shapes.{read_declare, read_enum_data, read_initial, read_int_data};
-ghost use Rattle.c_statements.specs.Shapes.{read_maybe_from, read_next_declarator, read_next_pointer};
-ghost use Rattle.c_statements.specs.Shapes.{read_pointer_declare, read_pointers, read_star_declarator};
+ghost use Rattle.c_statements.specs.Shapes.{read_declare, read_enum_data, read_init_declarator, read_initial};
+ghost use Rattle.c_statements.specs.Shapes.{read_int_data, read_maybe_from, read_more_declarators, read_named};
+ghost use Rattle.c_statements.specs.Shapes.{read_next_declarator, read_pointer_declare};
 
-use c_ast::{Data, Declarator, Declare, Rhs};
+use c_ast::{Data, Declarator, Declare, Name, Rhs};
 use c_grammar::{Sign, SyntaxFault};
 use c_lexer::Token;
 use c_operands::name;
 use c_reader::{Bounds, is_next, take};
 use c_simples::rhs;
 use fore_base::list::List;
-use std::alloc::Global;
+use fore_base::place::Place;
+use std::alloc::{AllocError, Global};
+
+/// A word, and a name behind it: the place of the word, and the name.
+pub fn named<'t>(
+    alloc: Global,
+    bounds: &Bounds,
+    word: Sign,
+    left: &'t [Token],
+) -> Result<((Place, Name), &'t [Token]), SyntaxFault>
+    requires { word ≢ End }
+    ensures ok { IfOk result (λ r. Reads (read_named word) bounds.now left.now r.1.now r.0) }
+    ensures shorter { IfOk result (λ r. length r.1.now < length left.now) }
+    ensures err { IfErr result (Stops (read_named word) bounds.now left.now) }
+{
+    let (token, rest) = take(bounds, left, word)?;
+    let (name, rest) = name(alloc, bounds, rest)?;
+    Ok(((token.at, name), rest))
+}
 
 /// `"int"`
 fn int_data<'t>(
@@ -40,9 +59,9 @@ fn enum_data<'t>(
     ensures shorter { IfOk result (λ r. length r.1.now < length left.now) }
     ensures err { IfErr result (Stops read_enum_data bounds.now left.now) }
 {
-    let (token, rest) = take(bounds, left, Sign::Enum)?;
-    let (name, rest) = name(alloc, bounds, rest)?;
-    let data = Data::Enum { at: token.at, name };
+    let (head, rest) = named(alloc, bounds, Sign::Enum, left)?;
+    let (at, name) = head;
+    let data = Data::Enum { at, name };
     Ok((data, rest))
 }
 
@@ -110,92 +129,86 @@ fn declarator<'t>(
     Ok((declarator, rest))
 }
 
-/// `"*" id [ "=" rhs ]`
-fn star_declarator<'t>(
+/// A declarator with what it starts with, behind a star where pointers are declared: `[ "*" ] id [ "=" rhs ]`
+fn init_declarator<'t>(
     alloc: Global,
     bounds: &Bounds,
+    starred: bool,
     left: &'t [Token],
 ) -> Result<(Declarator, &'t [Token]), SyntaxFault>
-    ensures ok { IfOk result (λ r. Reads read_star_declarator bounds.now left.now r.1.now r.0) }
+    ensures ok { IfOk result (λ r. Reads (read_init_declarator starred) bounds.now left.now r.1.now r.0) }
     ensures shorter { IfOk result (λ r. length r.1.now < length left.now) }
-    ensures err { IfErr result (Stops read_star_declarator bounds.now left.now) }
+    ensures err { IfErr result (Stops (read_init_declarator starred) bounds.now left.now) }
 {
+    if !starred {
+        return declarator(alloc, bounds, left);
+    }
     let (_, rest) = take(bounds, left, Sign::Star)?;
     let (declarator, rest) = declarator(alloc, bounds, rest)?;
     Ok((declarator, rest))
 }
 
-/// `"," id [ "=" rhs ]`
-pub fn next_declarator<'t>(
+/// `"," init_declarator`
+fn next_declarator<'t>(
     alloc: Global,
     bounds: &Bounds,
+    starred: bool,
     left: &'t [Token],
 ) -> Result<(Declarator, &'t [Token]), SyntaxFault>
-    ensures ok { IfOk result (λ r. Reads read_next_declarator bounds.now left.now r.1.now r.0) }
+    ensures ok { IfOk result (λ r. Reads (read_next_declarator starred) bounds.now left.now r.1.now r.0) }
     ensures shorter { IfOk result (λ r. length r.1.now < length left.now) }
-    ensures err { IfErr result (Stops read_next_declarator bounds.now left.now) }
+    ensures err { IfErr result (Stops (read_next_declarator starred) bounds.now left.now) }
 {
     let (_, rest) = take(bounds, left, Sign::Comma)?;
-    let (declarator, rest) = declarator(alloc, bounds, rest)?;
+    let (declarator, rest) = init_declarator(alloc, bounds, starred, rest)?;
     Ok((declarator, rest))
 }
 
-/// `"," "*" id [ "=" rhs ]`
-pub fn next_pointer<'t>(
+/// `{ "," init_declarator }`
+pub fn more_declarators<'t>(
     alloc: Global,
     bounds: &Bounds,
-    left: &'t [Token],
-) -> Result<(Declarator, &'t [Token]), SyntaxFault>
-    ensures ok { IfOk result (λ r. Reads read_next_pointer bounds.now left.now r.1.now r.0) }
-    ensures shorter { IfOk result (λ r. length r.1.now < length left.now) }
-    ensures err { IfErr result (Stops read_next_pointer bounds.now left.now) }
-{
-    let (_, rest) = take(bounds, left, Sign::Comma)?;
-    let (declarator, rest) = star_declarator(alloc, bounds, rest)?;
-    Ok((declarator, rest))
-}
-
-/// `id [ "=" rhs ] { "," id [ "=" rhs ] }`
-fn declarators<'t>(
-    alloc: Global,
-    bounds: &Bounds,
+    starred: bool,
     left: &'t [Token],
 ) -> Result<(List<Declarator>, &'t [Token]), SyntaxFault>
-    ensures ok { IfOk result (λ r. Reads read_declarators bounds.now left.now r.1.now r.0) }
-    ensures shorter { IfOk result (λ r. length r.1.now < length left.now) }
-    ensures err { IfErr result (Stops read_declarators bounds.now left.now) }
+    ensures ok { IfOk result (λ r. Reads (read_more_declarators starred) bounds.now left.now r.1.now r.0) }
+    ensures shorter { IfOk result (λ r. length r.1.now ≤ length left.now) }
+    ensures err { IfErr result (Stops (read_more_declarators starred) bounds.now left.now) }
 {
     let mut all = List::new(alloc);
-    let (first, rest) = declarator(alloc, bounds, left)?;
-    all.push(first)?;
-    let mut rest = rest;
+    let mut rest = left;
     'declarators: while is_next(rest, Sign::Comma) {
-        let (next, after) = next_declarator(alloc, bounds, rest)?;
+        let (next, after) = next_declarator(alloc, bounds, starred, rest)?;
         all.push(next)?;
         rest = after;
     }
     Ok((all, rest))
 }
 
-/// `"*" id [ "=" rhs ] { "," "*" id [ "=" rhs ] }`
-fn pointers<'t>(
-    alloc: Global,
-    bounds: &Bounds,
-    left: &'t [Token],
-) -> Result<(List<Declarator>, &'t [Token]), SyntaxFault>
-    ensures ok { IfOk result (λ r. Reads read_pointers bounds.now left.now r.1.now r.0) }
-    ensures shorter { IfOk result (λ r. length r.1.now < length left.now) }
-    ensures err { IfErr result (Stops read_pointers bounds.now left.now) }
+/// A list of one item. What is read next goes behind it, so that no wide value is held meanwhile.
+pub fn alone<T: Drop>(alloc: Global, item: T) -> Result<List<T>, AllocError>
+    ensures { IfOk result (λ all. all ≡ item ∷ []) }
 {
     let mut all = List::new(alloc);
-    let (first, rest) = star_declarator(alloc, bounds, left)?;
-    all.push(first)?;
-    let mut rest = rest;
-    'pointers: while is_next(rest, Sign::Comma) {
-        let (next, after) = next_pointer(alloc, bounds, rest)?;
-        all.push(next)?;
-        rest = after;
-    }
+    all.push(item)?;
+    Ok(all)
+}
+
+/// `init_declarator { "," init_declarator }`
+fn declarators<'t>(
+    alloc: Global,
+    bounds: &Bounds,
+    starred: bool,
+    left: &'t [Token],
+) -> Result<(List<Declarator>, &'t [Token]), SyntaxFault>
+    ensures ok { IfOk result (λ r. Reads (read_declarators starred) bounds.now left.now r.1.now r.0) }
+    ensures shorter { IfOk result (λ r. length r.1.now < length left.now) }
+    ensures err { IfErr result (Stops (read_declarators starred) bounds.now left.now) }
+{
+    let (first, rest) = init_declarator(alloc, bounds, starred, left)?;
+    let mut all = alone(alloc, first)?;
+    let (more, rest) = more_declarators(alloc, bounds, starred, rest)?;
+    all.append(more)?;
     Ok((all, rest))
 }
 
@@ -209,15 +222,11 @@ fn pointer_declare<'t>(
     ensures shorter { IfOk result (λ r. length r.1.now < length left.now) }
     ensures err { IfErr result (Stops read_pointer_declare bounds.now left.now) }
 {
-    let (token, rest) = take(bounds, left, Sign::Struct)?;
-    let (name, rest) = name(alloc, bounds, rest)?;
-    let (vars, rest) = pointers(alloc, bounds, rest)?;
+    let (head, rest) = named(alloc, bounds, Sign::Struct, left)?;
+    let (vars, rest) = declarators(alloc, bounds, true, rest)?;
     let (_, rest) = take(bounds, rest, Sign::Semicolon)?;
-    let declare = Declare::Pointers {
-        at: token.at,
-        name,
-        vars,
-    };
+    let (at, name) = head;
+    let declare = Declare::Pointers { at, name, vars };
     Ok((declare, rest))
 }
 
@@ -232,7 +241,7 @@ fn datum_declare<'t>(
     ensures err { IfErr result (Stops read_datum_declare bounds.now left.now) }
 {
     let (data, rest) = data(alloc, bounds, left)?;
-    let (vars, rest) = declarators(alloc, bounds, rest)?;
+    let (vars, rest) = declarators(alloc, bounds, false, rest)?;
     let (_, rest) = take(bounds, rest, Sign::Semicolon)?;
     let declare = Declare::Datums { data, vars };
     Ok((declare, rest))

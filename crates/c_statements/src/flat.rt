@@ -4,10 +4,11 @@ ghost use Rattle.c_reader.specs.Bounds.{Reads, Stops};
 ghost use Rattle.c_statements.specs.Shapes.{read_assert_stmt, read_break_stmt, read_continue_stmt, read_empty};
 ghost use Rattle.c_statements.specs.Shapes.{read_flat, read_maybe_operand, read_return_stmt, read_simple_stmt};
 
+use crate::loops::tested;
 use c_ast::{Operand, Stmt};
 use c_grammar::{Sign, SyntaxFault};
 use c_lexer::Token;
-use c_operands::{closed_cond, operand};
+use c_operands::operand;
 use c_reader::{Bounds, begins_operand, begins_simple, is_next, peek, take};
 use c_simples::simple;
 use fore_base::boxed::Boxed;
@@ -124,10 +125,10 @@ fn assert_stmt<'t>(
     ensures shorter { IfOk result (λ r. length r.1.now < length left.now) }
     ensures err { IfErr result (Stops read_assert_stmt bounds.now left.now) }
 {
-    let (token, rest) = take(bounds, left, Sign::Assert)?;
-    let (cond, rest) = closed_cond(alloc, bounds, rest)?;
+    let (head, rest) = tested(alloc, bounds, Sign::Assert, left)?;
     let (_, rest) = take(bounds, rest, Sign::Semicolon)?;
-    let stmt = Stmt::Assert { at: token.at, cond };
+    let (at, cond) = head;
+    let stmt = Stmt::Assert { at, cond };
     Ok((stmt, rest))
 }
 

@@ -9,5 +9,5 @@ mod flat;
 mod loops;
 mod statements;
 
-pub use declarations::{data, declare, maybe_from, next_declarator, next_pointer};
+pub use declarations::{alone, data, declare, maybe_from, more_declarators, named};
 pub use statements::block;

@@ -1,9 +1,10 @@
 // What stands round the statements that an `if`, a `while`, a `do` and a `for` have within.
-ghost use Rattle.std.specs.Prelude.{length, IfOk, IfErr, ◌<◌, ◌≤◌};
+ghost use Rattle.std.specs.Prelude.{length, IfOk, IfErr, ◌<◌, ◌≤◌, ◌≢◌};
+ghost use Rattle.c_grammar.specs.declared.signs.Sign.TheVariants.{End};
 ghost use Rattle.c_reader.specs.Bounds.{Reads, Stops};
 ghost use Rattle.c_statements.specs.Shapes.{read_do_tail, read_first, read_first_declare, read_first_simple};
-ghost use Rattle.c_statements.specs.Shapes.{read_for_head, read_if_head, read_maybe_cond, read_maybe_first};
-ghost use Rattle.c_statements.specs.Shapes.{read_maybe_simple, read_while_head};
+ghost use Rattle.c_statements.specs.Shapes.{read_for_head, read_maybe_cond, read_maybe_first, read_maybe_simple};
+ghost use Rattle.c_statements.specs.Shapes.{read_tested};
 
 use crate::declarations::declare;
 use c_ast::{Cond, First, Simple};
@@ -115,32 +116,19 @@ fn maybe_simple<'t>(
     Ok((None, left))
 }
 
-/// `"if" "(" cond ")"`
-pub fn if_head<'t>(
+/// A word, and a condition in brackets behind it: the place of the word, and the condition.
+pub fn tested<'t>(
     alloc: Global,
     bounds: &Bounds,
+    word: Sign,
     left: &'t [Token],
 ) -> Result<((Place, Cond), &'t [Token]), SyntaxFault>
-    ensures ok { IfOk result (λ r. Reads read_if_head bounds.now left.now r.1.now r.0) }
+    requires { word ≢ End }
+    ensures ok { IfOk result (λ r. Reads (read_tested word) bounds.now left.now r.1.now r.0) }
     ensures shorter { IfOk result (λ r. length r.1.now < length left.now) }
-    ensures err { IfErr result (Stops read_if_head bounds.now left.now) }
+    ensures err { IfErr result (Stops (read_tested word) bounds.now left.now) }
 {
-    let (token, rest) = take(bounds, left, Sign::If)?;
-    let (cond, rest) = closed_cond(alloc, bounds, rest)?;
-    Ok(((token.at, cond), rest))
-}
-
-/// `"while" "(" cond ")"`
-pub fn while_head<'t>(
-    alloc: Global,
-    bounds: &Bounds,
-    left: &'t [Token],
-) -> Result<((Place, Cond), &'t [Token]), SyntaxFault>
-    ensures ok { IfOk result (λ r. Reads read_while_head bounds.now left.now r.1.now r.0) }
-    ensures shorter { IfOk result (λ r. length r.1.now < length left.now) }
-    ensures err { IfErr result (Stops read_while_head bounds.now left.now) }
-{
-    let (token, rest) = take(bounds, left, Sign::While)?;
+    let (token, rest) = take(bounds, left, word)?;
     let (cond, rest) = closed_cond(alloc, bounds, rest)?;
     Ok(((token.at, cond), rest))
 }

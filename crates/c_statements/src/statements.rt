@@ -12,7 +12,7 @@ ghost use Rattle.c_statements.specs.Shapes.{read_while_stmt};
 
 use crate::declarations::declare;
 use crate::flat::flat;
-use crate::loops::{do_tail, for_head, if_head, while_head};
+use crate::loops::{do_tail, for_head, tested};
 use c_ast::{Block, Part, Stmt};
 use c_grammar::{Sign, SyntaxFault};
 use c_lexer::Token;
@@ -142,7 +142,7 @@ fn if_stmt<'t>(
     ensures shorter { IfOk result (λ r. length r.1.now < length left.now) }
     ensures err { IfErr result (Stops read_if_stmt bounds.now left.now) }
 {
-    let (head, rest) = if_head(alloc, bounds, left)?;
+    let (head, rest) = tested(alloc, bounds, Sign::If, left)?;
     let (then, rest) = stmt(alloc, bounds, rest)?;
     let then = Boxed::new(alloc, then)?;
     let (other, rest) = other(alloc, bounds, rest)?;
@@ -167,7 +167,7 @@ fn while_stmt<'t>(
     ensures shorter { IfOk result (λ r. length r.1.now < length left.now) }
     ensures err { IfErr result (Stops read_while_stmt bounds.now left.now) }
 {
-    let (head, rest) = while_head(alloc, bounds, left)?;
+    let (head, rest) = tested(alloc, bounds, Sign::While, left)?;
     let (body, rest) = stmt(alloc, bounds, rest)?;
     let body = Boxed::new(alloc, body)?;
     let (at, cond) = head;

@@ -4,8 +4,8 @@ use Rattle.c_ast.specs.declared.items.Item.{Item}
 use Rattle.c_typing.specs.Globals.{Globals, calls_of, defined_name, enums_of, function_heads, function_of, globals_of}
 use Rattle.c_typing.specs.Globals.{main_head, maybe_function_of, struct_definitions, struct_name, structs_of, values_of}
 use Rattle.c_typing.specs.Texts.{Text}
+use Rattle.c_typing.proofs.Firsts.{names_of_structs}
 use Rattle.c_typing.specs.declared.meaning.FunctionDef.{FunctionDef}
-use Rattle.c_defined.proofs.TableLemmas.{names_of_structs}
 use Rattle.c_defined.specs.Defined.{Defined}
 
 abbrev pub globals : Defined → List FunctionDef → Option FunctionDef → List (List ℕ) → Globals

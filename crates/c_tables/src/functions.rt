@@ -20,8 +20,7 @@ pub fn params_of(params: &Option<Params>) -> &[Param]
     ensures { result.now ≡ params_of params.now }
 {
     match params {
-        None => &[],
-        Some(Params::Void { .. }) => &[],
+        None | Some(Params::Void { .. }) => &[],
         Some(Params::List(params)) => params.as_slice(),
     }
 }

@@ -1,8 +1,9 @@
 -- Calls that are followed deeper than there are functions: where no function leads to itself, that changes nothing.
-use Rattle.std.proofs.Common.{◌≡◌, ◌<◌, ◌≤◌, inl, inr, ℕ, zero, suc, true, Option, Some, None, List, [], ◌∷◌, ◌++◌}
+use Rattle.std.proofs.Common.{◌≡◌, ◌<◌, ◌≤◌, inl, ℕ, zero, suc, true, Option, Some, None, List, [], ◌∷◌}
 use Rattle.std.proofs.Common.{map, length, slice_get, refl, sym, ap, ◌∙◌, subst, arith}
 use Rattle.std.proofs.lemmas.Option.{slice_get_within}
 use Rattle.fore_base.specs.Lists.{IsIn}
+use Rattle.fore_base.proofs.ListLemmas.{in_left, in_right}
 use Rattle.c_calls.specs.Calls.{called_by, NoneRecurs}
 use Rattle.c_calls.proofs.FewCalls.{Room, first_room, next_room, none_left}
 use Rattle.c_types.specs.declared.program.Arg.{Arg}
@@ -19,18 +20,7 @@ use Rattle.c_types.specs.declared.program.Stmt.TheVariants.{Call}
 use Rattle.c_types.specs.Program.{Program, is_typed}
 use Rattle.c_calls.proofs.FewCalls.{test_none}
 use Rattle.c_types.proofs.Layers.{by-Call}
-use Rattle.c_types.proofs.ItemsTyped.{has_none_recurs}
-
--- What is in a list of lists, one after the other
-
-in_front : {X : Type 0} (x : X) (xs ys : List X) → IsIn x xs → IsIn x (xs ++ ys)
-in_front x [] ys i = absurd i
-in_front x (y ∷ xs) ys (inl e) = inl e
-in_front x (y ∷ xs) ys (inr i) = inr (in_front x xs ys i)
-
-in_back : {X : Type 0} (x : X) (xs ys : List X) → IsIn x ys → IsIn x (xs ++ ys)
-in_back x [] ys i = i
-in_back x (y ∷ xs) ys i = inr (in_back x xs ys i)
+use Rattle.c_types.proofs.WellTyped.{has_none_recurs}
 
 module _ (funcs : List Func) (inside outside : List Stmt → Items → Items) where
   -- the two give one body the same items, for each function that is called there
@@ -49,10 +39,10 @@ module _ (funcs : List Func) (inside outside : List Stmt → Items → Items) wh
       → all_before (map (items_by funcs inside) (bare ss)) r ≡ all_before (map (items_by funcs outside) (bare ss)) r
   all_same [] agree r = refl
   all_same (s ∷ ss) agree r =
-      s.1 (λ f i. agree f (in_front f (stmt_calls s.0) (in_turn (map stmt_calls (bare ss))) i))
+      s.1 (λ f i. agree f (in_left f (stmt_calls s.0) (in_turn (map stmt_calls (bare ss))) i))
       (all_before (map (items_by funcs inside) (bare ss)) r)
       ∙ ap (items_by funcs outside s.0)
-      (all_same ss (λ f i. agree f (in_back f (stmt_calls s.0) (in_turn (map stmt_calls (bare ss))) i)) r)
+      (all_same ss (λ f i. agree f (in_right f (stmt_calls s.0) (in_turn (map stmt_calls (bare ss))) i)) r)
 
   call_same : (o : Option Func) (args : List Arg) (to' : Option Dest) (m : ℕ) (r : Items)
       → ((g : Func) → o ≡ Some g → (q : Items) → inside g.body q ≡ outside g.body q)
@@ -79,18 +69,18 @@ module _ (funcs : List Func) (inside outside : List Stmt → Items → Items) wh
       let xs : List ℕ = in_turn (map stmt_calls (bare x)) in
       let ys : List ℕ = in_turn (map stmt_calls (bare y)) in
       ap (λ z. If (test_of c) z (all_before (map by_in (bare y)) Done) r)
-      (all_same x (λ f i. agree f (in_front f xs ys i)) Done)
+      (all_same x (λ f i. agree f (in_left f xs ys i)) Done)
       ∙ ap (λ z. If (test_of c) (all_before (map by_out (bare x)) Done) z r)
-      (all_same y (λ f i. agree f (in_back f xs ys i)) Done)
+      (all_same y (λ f i. agree f (in_right f xs ys i)) Done)
   layer_same (While-F c b) agree r = ap (λ z. Loop (test_of c) Done z r) (all_same b agree Done)
   layer_same (DoWhile-F c b) agree r = ap (λ z. DoLoop (test_of c) z r) (all_same b agree Done)
   layer_same (For-F c n b) agree r =
       let ns : List ℕ = in_turn (map stmt_calls (bare n)) in
       let bs : List ℕ = in_turn (map stmt_calls (bare b)) in
       ap (λ z. Loop (test_of c) z (all_before (map by_in (bare b)) Done) r)
-      (all_same n (λ f i. agree f (in_front f ns bs i)) Done)
+      (all_same n (λ f i. agree f (in_left f ns bs i)) Done)
       ∙ ap (λ z. Loop (test_of c) (all_before (map by_out (bare n)) Done) z r)
-      (all_same b (λ f i. agree f (in_back f ns bs i)) Done)
+      (all_same b (λ f i. agree f (in_right f ns bs i)) Done)
   layer_same (Group-F b ps ds m) agree r = all_same b agree (closes ps ds m r)
   layer_same (Call-F f args to' line) agree r =
       call_same (slice_get funcs f) args to' line r (λ g e q. agree f (inl refl) g e q)
@@ -114,12 +104,12 @@ module _ (funcs : List Func) (inside outside : List Stmt → Items → Items) wh
       → all_before (map by_in ss) r ≡ all_before (map by_out ss) r
   body_same [] agree r = refl
   body_same (s ∷ ss) agree r =
-      stmt_same s (λ f i. agree f (in_front f (stmt_calls s) (body_calls ss) i)) (all_before (map by_in ss) r)
-      ∙ ap (by_out s) (body_same ss (λ f i. agree f (in_back f (stmt_calls s) (body_calls ss) i)) r)
+      stmt_same s (λ f i. agree f (in_left f (stmt_calls s) (body_calls ss) i)) (all_before (map by_in ss) r)
+      ∙ ap (by_out s) (body_same ss (λ f i. agree f (in_right f (stmt_calls s) (body_calls ss) i)) r)
 
 -- The calls of a file
 
-called_there : (funcs : List Func) (f : ℕ) (g : Func) → slice_get funcs f ≡ Some g
+pub called_there : (funcs : List Func) (f : ℕ) (g : Func) → slice_get funcs f ≡ Some g
     → called_by (calls_of funcs) f ≡ body_calls g.body
 called_there [] f g e = cc
 called_there (h ∷ funcs) zero g e = let same : h ≡ g = cc in ap (λ (k : Func). body_calls k.body) same

@@ -1,5 +1,5 @@
 -- What the definitions by folds are on each statement and each condition: one equation for each kind.
-use Rattle.std.proofs.Common.{◌≡◌, ℕ, Bool, ◌&&◌, ◌++◌, Option, List, [], ◌∷◌, map, length, slice_get, refl, ap, ◌∙◌}
+use Rattle.std.proofs.Common.{◌≡◌, ℕ, Bool, ◌&&◌, ◌++◌, Option, List, [], ◌∷◌, map, length, slice_get, ap, ◌∙◌}
 use Rattle.std.specs.List.{flat_map}
 use Rattle.fore_base.specs.declared.shape.Shape.{Shape}
 use Rattle.c_types.specs.declared.program.VarRef.{VarRef}
@@ -8,8 +8,6 @@ use Rattle.c_types.specs.declared.program.Arg.{Arg}
 use Rattle.c_types.specs.declared.program.Dest.{Dest}
 use Rattle.c_types.specs.declared.program.Func.{Func}
 use Rattle.c_types.specs.declared.program.Act.{Act}
-use Rattle.c_types.specs.declared.program.Act.TheVariants.{SetPtr, SetData, Free, Error, Halt, Return, Leave, Break}
-use Rattle.c_types.specs.declared.program.Act.TheVariants.{Continue}
 use Rattle.c_types.specs.declared.program.Atom.{Atom as AtomPart}
 use Rattle.c_types.specs.declared.program.VarDef.{VarDef}
 use Rattle.c_types.specs.declared.program.Cond.{Cond, Cond-F, out-Cond, map-Cond, fold-Cond, fold_out-Cond}
@@ -24,9 +22,9 @@ use Rattle.c_types.specs.Bodies.{atom_names, stmt_names, stmt_names_step, stmt_d
 use Rattle.c_types.specs.Bodies.{calls_step}
 use Rattle.c_types.specs.Program.{Spot, InNext, body_of, all_below, act_typed, atom_typed, parts_typed, cond_typed}
 use Rattle.c_types.specs.Program.{cond_typed_step, each_typed, call_typed, stmt_typed, stmt_typed_step}
-use Rattle.c_types.specs.Control.{Test, Ask, Not as NotTest, Both, Either, Items, Done, Do as DoItem, If, Loop, DoLoop}
+use Rattle.c_types.specs.Control.{Test, Ask, Not as NotTest, Both, Either, Items, Done, If, Loop, DoLoop}
 use Rattle.c_types.specs.Control.{joined, test_step, test_of, all_before, closes, act_items, call_items, items_step}
-use Rattle.c_types.specs.Control.{items_by, body_within, items_of}
+use Rattle.c_types.specs.Control.{items_by}
 
 -- a fold on a condition or a statement whose outer part is known
 pub cond_folded : (A : Type 0) (step : Cond-F A → A) (c : Cond) (y : Cond-F Cond) → out-Cond c ≡ y → fold-Cond A step c
@@ -90,51 +88,6 @@ module _ (funcs : List Func) (inside : List Stmt → Items → Items) where
   pub by-Call : (f : ℕ) (args : List Arg) (to' : Option Dest) (line : ℕ) (r : Items)
       → items_by funcs inside (Call f args to' line) r ≡ call_items inside (slice_get funcs f) args to' line r
   by-Call f args to' line r = by_items (Call f args to' line) _ r (outs-Call f args to' line)
-
--- without functions each act is an item as it stands
-pub acts_none : (a : Act) (line : ℕ) (r : Items) → act_items [] a line r ≡ DoItem a line r
-acts_none (SetPtr to from) line r = refl
-acts_none (SetData to from) line r = refl
-acts_none (Free p) line r = refl
-acts_none Error line r = refl
-acts_none Halt line r = refl
-acts_none (Return operand) line r = refl
-acts_none (Leave f value) line r = refl
-acts_none Break line r = refl
-acts_none Continue line r = refl
-
--- Items of programs without functions
-
-abbrev plain : List Stmt → Items → Items
-plain = body_within [] 0
-
-pub items-Do : (a : Act) (line : ℕ) (r : Items) → items_of [] (Do a line) r ≡ DoItem a line r
-items-Do a line r = by-Do [] plain a line r ∙ acts_none a line r
-
-pub items-Branch : (c : Cond) (x y : List Stmt) (r : Items) → items_of [] (Branch c x y) r
-    ≡ If (test_of c) (all_before (map (items_of []) x) Done) (all_before (map (items_of []) y) Done) r
-items-Branch = by-Branch [] plain
-
-pub items-While : (c : Cond) (b : List Stmt) (r : Items) → items_of [] (While c b) r
-    ≡ Loop (test_of c) Done (all_before (map (items_of []) b) Done) r
-items-While = by-While [] plain
-
-pub items-DoWhile : (c : Cond) (b : List Stmt) (r : Items) → items_of [] (DoWhile c b) r
-    ≡ DoLoop (test_of c) (all_before (map (items_of []) b) Done) r
-items-DoWhile = by-DoWhile [] plain
-
-pub items-For : (c : Cond) (n b : List Stmt) (r : Items) → items_of [] (For c n b) r
-    ≡ Loop (test_of c) (all_before (map (items_of []) n) Done) (all_before (map (items_of []) b) Done) r
-items-For = by-For [] plain
-
-pub items-Group : (b : List Stmt) (ps ds : List ℕ) (close : ℕ) (r : Items) → items_of [] (Group b ps ds close) r
-    ≡ all_before (map (items_of []) b) (closes ps ds close r)
-items-Group = by-Group [] plain
-
--- a call of no function has no items
-pub items-Call : (f : ℕ) (args : List Arg) (to' : Option Dest) (line : ℕ) (r : Items)
-    → items_of [] (Call f args to' line) r ≡ r
-items-Call = by-Call [] plain
 
 pub ruleset layers = (
   test-Atom,

@@ -80,19 +80,6 @@ same_cells cs = paired_same KeptCell (λ c. (refl, λ n h. h)) cs
 pub keeps_all : (s : Store) → Keeps s s
 keeps_all s = record { vars = λ n h. h; cells = same_cells s.cells }
 
--- one change after the other
-paired_both : (cs ds es : List CellRec) → Paired KeptCell cs ds → Paired KeptCell ds es → Paired KeptCell cs es
-paired_both [] [] [] p q = tt
-paired_both [] [] (e ∷ es) p q = absurd q
-paired_both [] (d ∷ ds) es p q = absurd p
-paired_both (c ∷ cs) [] es p q = absurd p
-paired_both (c ∷ cs) (d ∷ ds) [] p q = absurd q
-paired_both (c ∷ cs) (d ∷ ds) (e ∷ es) p q = ((q.0.0 ∙ p.0.0, λ n h. q.0.1 n (p.0.1 n h)), paired_both cs ds es p.1 q.1)
-
-pub keeps_both : (s t u : Store) → Keeps s t → Keeps t u → Keeps s u
-keeps_both s t u k l = record
-    { vars = λ n h. l.vars n (k.vars n h); cells = paired_both s.cells t.cells u.cells k.cells l.cells }
-
 -- Variables
 
 set_kept : (vs : List Value) (x : ℕ) (v : Value) → is_cell (slice_index_or vs x Uninit) ≡ false → (n : ℕ)

@@ -1,5 +1,5 @@
 -- A step that takes no reference to a cell away: its leak test has the answer that it had before.
-use Rattle.std.proofs.Common.{◌≡◌, ℕ, Bool, true, false, if◌then◌else◌, Option, Some, None, Result, Ok, Err, List, []}
+use Rattle.std.proofs.Common.{◌≡◌, ℕ, Bool, true, false, Option, Some, None, Result, Ok, Err, List, []}
 use Rattle.std.proofs.Common.{◌∷◌, ◌||◌, length, slice_index_or, refl, sym, ap, ◌∙◌, subst, true≢false}
 use Rattle.fore_base.specs.declared.fault.Fault.{Fault}
 use Rattle.fore_base.specs.declared.fault.Fault.TheVariants.{Leak}

@@ -14,5 +14,9 @@ pub mod LeakTests
 pub mod LeakGained
 pub mod HeldOn
 pub mod DeepCalls
-pub mod NoFunctions
-pub mod OwnExits
+pub mod OwnEnds
+pub mod Composing
+pub mod Rests
+pub mod Standing
+pub mod TypedComposing
+pub mod WellTyped

@@ -1,6 +1,5 @@
 -- Worked values, which guard the definitions in specs/: each is worked out by hand from the C text in its comment, and
--- each case of a
--- definition is met by a row that fails if the case is wrong.
+-- each case of a definition is met by a row that fails if the case is wrong.
 mod Forms
 mod Loops
 mod Conditions

@@ -39,8 +39,8 @@ use Rattle.c_types.specs.Fits.{PointsTo, FitsProgram, Visited, start, step, ActF
 use Rattle.c_types.proofs.Fitting.{Gives, onward_gives, PathLeads, path_leads, path_below, Sound, is_sound, sound_fits}
 use Rattle.c_types.proofs.Fitting.{sound_proper, read_gives, path_sound, set_datum_sound, store_datum_sound, kill_sound}
 use Rattle.c_types.proofs.Fitting.{grown_sound, grown_points, freed_sound, empty_sound}
-use Rattle.c_types.proofs.ItemsTyped.{then_fit, opened_fit, after_fit, from_fit, exit_fit, has_shapes_typed}
-use Rattle.c_types.proofs.ItemsTyped.{has_vars_typed, start_fits}
+use Rattle.c_types.proofs.ItemsTyped.{then_fit, opened_fit, after_fit, from_fit, exit_fit, start_fits}
+use Rattle.c_types.proofs.WellTyped.{has_shapes_typed, has_vars_typed}
 
 -- where a turn goes on, what it goes on with meets P
 abbrev pub TurnGives : (Items → Store → Type 0) → Turn → Type 0

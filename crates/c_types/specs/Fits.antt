@@ -43,8 +43,7 @@ var_targets [] = []
 var_targets (v ∷ vs) = v.shape ∷ var_targets vs
 
 -- a cell has a struct of the program, a value for each pointer field of the struct, which points to the declared
--- struct, and a datum for each
--- data field
+-- struct, and a datum for each data field
 pub record CellFits (shapes : List Shape) (cells : List CellRec) (c : CellRec) : Type 0 where
   pub shape : c.shape < length shapes
   pub fields : PointsToEach cells (targets_of shapes c.shape) c.fields

@@ -52,8 +52,7 @@ pub fn more_choices_are_ignored(program: &Typed)
 }
 
 /// A run with too few choices is starved at the step that needs the missing one: with any more choices it gets there,
-/// and this step reads the
-/// first of them, which no step before it does.
+/// and this step reads the first of them, which no step before it does.
 pub fn starved_where_needed(program: &Typed)
     ensures { (mode : MallocMode) (choices : List ℕ) (steps step : ℕ) → run program.now mode choices steps
         ≡ Outcome.Starved step → (1 ≤ step)
@@ -97,8 +96,7 @@ pub fn calls_end(program: &Typed)
 }
 
 /// A step that takes no reference to a cell away (no variable or field that held a cell is overwritten or dies, no cell
-/// is freed, and none is
-/// made) leaks exactly if the store had leaked before it.
+/// is freed, and none is made) leaks exactly if the store had leaked before it.
 pub fn leaks_by_losses_alone(program: &Typed)
     ensures kept { (mode : MallocMode) (is : Items) (s : Store) (choice : ℕ) → loses (opened is) s ≡ false → leaks s
         ≡ false

@@ -7,8 +7,7 @@ use fore_base::text::Text;
 use std::marker::Model;
 
 /// A pointer: a variable, and the pointer fields that lead on from it, each by its number among the pointer fields of
-/// the struct that stands
-/// there. No field means the variable itself.
+/// the struct that stands there. No field means the variable itself.
 #[derive(Drop)]
 pub struct Path {
     /// The number of a pointer variable.

@@ -5,6 +5,7 @@ pub mod Clean
 pub mod ConditionLayers
 pub mod FileCounts
 pub mod FileNames
+pub mod Firsts
 pub mod Formulas
 pub mod Layers
 pub mod OwnMeanings

@@ -49,7 +49,7 @@ use Rattle.c_typing.specs.BodySites.{other_sites}
 use Rattle.c_typing.specs.Callees.{maybe_callees, operand_callees, call_callees, rhs_callees, simple_callees}
 use Rattle.c_typing.specs.Callees.{declarator_callees, declare_callees, first_callees, part_callees, stmt_callees}
 use Rattle.c_typing.specs.Callees.{block_callees, other_callees, cond_callees}
-use Rattle.c_typing.specs.Functions.{called_number, called, recurs, params_in, function_at}
+use Rattle.c_typing.specs.Functions.{called_number, recurs, params_in, function_at}
 use Rattle.c_typing.specs.Globals.{Globals, result_at}
 use Rattle.c_typing.specs.Meanings.{meaning_of_operand, meaning_of_path}
 use Rattle.c_typing.specs.Profile.{errors}
@@ -61,7 +61,7 @@ use Rattle.c_typing.specs.Programs.{ptrs_of, return_act, returned_value, simple_
 use Rattle.c_typing.specs.Programs.{stored, target_struct}
 use Rattle.c_typing.specs.Scopes.{Scope, Var, all_declared, declarators_of, declared, declared_so_far, innermost}
 use Rattle.c_typing.specs.Scopes.{kind_of, next_ref, opened, past_declare, past_first, past_part, past_parts, past_stmt}
-use Rattle.c_typing.specs.Scopes.{var_name}
+use Rattle.c_typing.specs.Scopes.{outer, var_name}
 use Rattle.c_typing.specs.Sites as site
 use Rattle.c_typing.specs.Sites.{Calls, argument_sites, call_sites, cond_sites, rhs_sites, right_step}
 use Rattle.c_typing.specs.Sites.{simple_sites, target_sites, value_sites, want_of_kind, want_of_target}
@@ -77,12 +77,12 @@ use Rattle.c_typing.proofs.Clean.{IsClean, call_right, clean_first, clean_parts,
 use Rattle.c_typing.proofs.OwnMeanings.{OwnMeaning, args_own, assigned_own, arg_own, cond_own, data_rhs_own, dest_own}
 use Rattle.c_typing.proofs.OwnMeanings.{freed_own, maybe_cond_own, operand_own, path_own, ptr_rhs_own, returned_own}
 use Rattle.c_typing.proofs.OwnMeanings.{turned_back}
-use Rattle.c_typing.proofs.OwnScopes.{IsOpen, Own, OwnVar, next_own, open_all, open_declared, outer, outer-all}
-use Rattle.c_typing.proofs.OwnScopes.{own_back_all, own_together}
+use Rattle.c_typing.proofs.OwnScopes.{IsOpen, Own, OwnVar, next_own, open_all, open_declared}
+use Rattle.c_typing.proofs.OwnScopes.{outer-all_declared, own_back_all, own_together}
 use Rattle.c_typing.proofs.OwnVariables.{ref}
 use Rattle.c_typing.proofs.ProgramLayers as made
 use Rattle.c_typing.proofs.ScopeLayers as past
-use Rattle.c_typing.proofs.ScopeLaws.{home_all, home_declared, part_back, stmt_keeps}
+use Rattle.c_typing.proofs.ScopeLaws.{home-all_declared, home-declared, part_back, stmt_keeps}
 use Rattle.c_typing.proofs.SiteLayers as sites
 use Rattle.c_typing.proofs.Trees.{OfOption, Cases, block_holds, part_holds}
 
@@ -318,7 +318,7 @@ module _ (g : Globals) (A : VarRef → Type 0) (C : ℕ → Type 0) (M : Text �
       → Right (initialised g (declared scope d.name.text k) (next_variable scope k) d.name.at.line from)
   initialised_right scope k d home own mine None clean all = tt
   initialised_right scope k d home own mine (Some r) clean all =
-      assign_right (declared scope d.name.text k) (home_declared scope d.name.text k ∙ home) own (next_variable scope k)
+      assign_right (declared scope d.name.text k) (home-declared scope d.name.text k ∙ home) own (next_variable scope k)
       (want_of_kind k) r d.name.at.line (next_mine scope k mine) clean all
 
   declarators_right : (k : Kind) (ds : List Declarator) (scope : Scope) → IsOpen scope.blocks → scope.home ≡ H
@@ -346,7 +346,7 @@ module _ (g : Globals) (A : VarRef → Type 0) (C : ℕ → Type 0) (M : Text �
       (declarators_stmts g k ds (declared scope d.name.text k))
       (initialised_right scope k d home here mine d.from front.1 names.0)
       (declarators_right k ds (declared scope d.name.text k) (open_declared scope d.name.text k o)
-      (home_declared scope d.name.text k ∙ home) own halves.1 names.1)
+      (home-declared scope d.name.text k ∙ home) own halves.1 names.1)
 
   declare_named : (d : Declare) → Every M (declare_callees d) → Every M (each_of declarator_callees (declarators_of d))
   declare_named (declare.Pointers at name vars) all = all
@@ -377,7 +377,7 @@ module _ (g : Globals) (A : VarRef → Type 0) (C : ℕ → Type 0) (M : Text �
   facts_cases = record {
     of_Declare = λ d scope. subst (Facts scope) (sym (past.past-Declare g d scope)) (
       own_back_all A (kind_of g d) (declarators_of d) scope,
-      (open_all (kind_of g d) (declarators_of d) scope, outer-all (kind_of g d) (declarators_of d) scope),
+      (open_all (kind_of g d) (declarators_of d) scope, outer-all_declared (kind_of g d) (declarators_of d) scope),
     );
     of_Stmt = λ s u scope. subst (Facts scope) (sym (past.past-Stmt g s scope))
         (facts_same scope (past_stmt g s scope) (stmt_keeps g [] 0 s scope).0);
@@ -555,15 +555,15 @@ module _ (g : Globals) (A : VarRef → Type 0) (C : ℕ → Type 0) (M : Text �
       let loop : Stmt = loop_of g at c next (body, stmt_stmts g body) inner in
       let end : Own A inner.blocks × Owned (declare_stmts g d (opened scope) ++ loop ∷ []) =
       group_owned (declare_stmts g d (opened scope) ++ loop ∷ []) inner at.line declares
-      (subst (Own A) (sym (outer-all (kind_of g d) (declarators_of d) (opened scope))) own) in
+      (subst (Own A) (sym (outer-all_declared (kind_of g d) (declarators_of d) (opened scope))) own) in
       let mine : Owned (declare_stmts g d (opened scope)) × Owned (loop ∷ []) =
       every_parts (λ s. Every A (stmt_declares s)) (declare_stmts g d (opened scope)) (loop ∷ []) end.1 in (
         group_right (declare_stmts g d (opened scope) ++ loop ∷ []) (ptrs_of (innermost inner.blocks))
             (datums_of (innermost inner.blocks)) at.line
             (every_append RightStmt (declare_stmts g d (opened scope)) (loop ∷ [])
             (declare_right d (opened scope) tt home end.0 clean heads)
-            (loop_right at c next body inner ok (home_all (kind_of g d) (declarators_of d) (opened scope) ∙ home) end.0
-            mine.1 rest steps rounds)),
+            (loop_right at c next body inner ok
+            (home-all_declared (kind_of g d) (declarators_of d) (opened scope) ∙ home) end.0 mine.1 rest steps rounds)),
         tt,
       )
   for_parts_right (first.Simple s) at c next body scope ok home own clean rest heads steps rounds declares =

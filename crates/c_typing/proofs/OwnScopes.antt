@@ -4,7 +4,7 @@ use Rattle.fore_base.proofs.ListLemmas.{every_append}
 use Rattle.fore_base.specs.Lists.{Every}
 use Rattle.c_ast.specs.declared.statements.Declarator.{Declarator}
 use Rattle.c_types.specs.declared.program.VarRef.{VarRef}
-use Rattle.c_typing.specs.Scopes.{Var, Scope, all_declared, declared, innermost, next_ref, var_name, with_var}
+use Rattle.c_typing.specs.Scopes.{Var, Scope, all_declared, declared, innermost, next_ref, outer, var_name, with_var}
 use Rattle.c_typing.specs.Texts.{Text, has, joined}
 use Rattle.c_typing.specs.declared.meaning.Kind.{Kind}
 use Rattle.c_typing.specs.declared.meaning.Kind.TheVariants.{Points, Datum}
@@ -32,27 +32,23 @@ pub open_all : (k : Kind) (ds : List Declarator) (scope : Scope) → IsOpen scop
 open_all k [] scope o = o
 open_all k (d ∷ ds) scope o = open_all k ds (declared scope d.name.text k) (open_declared scope d.name.text k o)
 
--- the blocks around the innermost one
-abbrev pub outer : List (List Var) → List (List Var)
-outer [] = []
-outer (b ∷ bs) = bs
-
-outer-with : (v : Var) (bs : List (List Var)) → outer (with_var v bs) ≡ outer bs
-outer-with v [] = refl
-outer-with v (b ∷ bs) = either (has v.name (map var_name b))
+outer-with_var : (v : Var) (bs : List (List Var)) → outer (with_var v bs) ≡ outer bs
+outer-with_var v [] = refl
+outer-with_var v (b ∷ bs) = either (has v.name (map var_name b))
   where
     either : (t : Bool) → outer (cond t (b ∷ bs) ((v ∷ b) ∷ bs)) ≡ bs
     either true = refl
     either false = refl
 
-outer-declared : (scope : Scope) (x : Text) (k : Kind) → outer (declared scope x k).blocks ≡ outer scope.blocks
-outer-declared scope x (Points to) = outer-with _ scope.blocks
-outer-declared scope x Datum = outer-with _ scope.blocks
+pub outer-declared : (scope : Scope) (x : Text) (k : Kind) → outer (declared scope x k).blocks ≡ outer scope.blocks
+outer-declared scope x (Points to) = outer-with_var _ scope.blocks
+outer-declared scope x Datum = outer-with_var _ scope.blocks
 
-pub outer-all : (k : Kind) (ds : List Declarator) (scope : Scope) → outer (all_declared k ds scope).blocks
-    ≡ outer scope.blocks
-outer-all k [] scope = refl
-outer-all k (d ∷ ds) scope = outer-all k ds (declared scope d.name.text k) ∙ outer-declared scope d.name.text k
+pub outer-all_declared : (k : Kind) (ds : List Declarator) (scope : Scope)
+    → outer (all_declared k ds scope).blocks ≡ outer scope.blocks
+outer-all_declared k [] scope = refl
+outer-all_declared k (d ∷ ds) scope =
+    outer-all_declared k ds (declared scope d.name.text k) ∙ outer-declared scope d.name.text k
 
 module _ (A : VarRef → Type 0) where
   abbrev pub OwnVar : Var → Type 0

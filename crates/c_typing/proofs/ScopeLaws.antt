@@ -51,13 +51,15 @@ below_append n (x ∷ xs) ys left right =
     let halves : (nat_lt x n ≡ true) × (all_below n xs ≡ true) = and_parts (nat_lt x n) (all_below n xs) left in
     ap (λ b. b && all_below n (xs ++ ys)) halves.0 ∙ below_append n xs ys halves.1 right
 
-pub home_declared : (scope : Scope) (x : Text) (k : Kind) → (declared scope x k).home ≡ scope.home
-home_declared scope x (Points to) = refl
-home_declared scope x Datum = refl
+pub home-declared : (scope : Scope) (x : Text) (k : Kind) → (declared scope x k).home ≡ scope.home
+home-declared scope x (Points to) = refl
+home-declared scope x Datum = refl
 
-pub home_all : (k : Kind) (ds : List Declarator) (scope : Scope) → (all_declared k ds scope).home ≡ scope.home
-home_all k [] scope = refl
-home_all k (d ∷ ds) scope = home_all k ds (declared scope d.name.text k) ∙ home_declared scope d.name.text k
+pub home-all_declared : (k : Kind) (ds : List Declarator) (scope : Scope)
+    → (all_declared k ds scope).home ≡ scope.home
+home-all_declared k [] scope = refl
+home-all_declared k (d ∷ ds) scope =
+    home-all_declared k ds (declared scope d.name.text k) ∙ home-declared scope d.name.text k
 
 module _ (g : Globals) (V : List VarDef) (D : ℕ) where
   -- what was declared is among the variables of the program
@@ -116,7 +118,7 @@ module _ (g : Globals) (V : List VarDef) (D : ℕ) where
   keep_cases = record {
     of_Declare = λ d scope. (
       λ w. back_all (kind_of g d) (declarators_of d) scope (subst Within (past-Declare g d scope) w),
-      ap (λ s. s.home) (past-Declare g d scope) ∙ home_all (kind_of g d) (declarators_of d) scope,
+      ap (λ s. s.home) (past-Declare g d scope) ∙ home-all_declared (kind_of g d) (declarators_of d) scope,
     );
     of_Stmt = λ s ok scope. (
       λ w. (ok scope).1.0 (subst Within (past-Stmt g s scope) w),
@@ -219,3 +221,17 @@ module _ (g : Globals) (V : List VarDef) (D : ℕ) where
   datums_below (v ∷ vs) all =
       below_append D (datums_of vs) (datum_before v.kind v.number) (datums_below vs all.1)
       (datum_below v.kind v.number v.name all.0)
+
+-- No part of a body leaves the function around.
+
+pub home-past_first : (g : Globals) (f : First) (scope : Scope) → (past_first g f scope).home ≡ scope.home
+home-past_first g (first.Declare d) scope = home-all_declared (kind_of g d) (declarators_of d) scope
+home-past_first g (first.Simple s) scope = refl
+home-past_first g first.Nothing scope = refl
+
+pub home-past_stmt : (g : Globals) (s : Stmt) (scope : Scope) → (past_stmt g s scope).home ≡ scope.home
+home-past_stmt g s scope = (stmt_keeps g [] 0 s scope).1.1
+
+pub home-past_parts : (g : Globals) (ps : List part.Part) (scope : Scope) → (past_parts g ps scope).home ≡ scope.home
+home-past_parts g [] scope = refl
+home-past_parts g (p ∷ ps) scope = home-past_parts g ps (past_part g p scope) ∙ (part_back g [] 0 p scope).1

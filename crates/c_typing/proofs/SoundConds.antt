@@ -1,7 +1,7 @@
 -- Where nothing is broken, conditions and statements without parts are typed.
 use Rattle.std.proofs.Common.{◌≡◌, ℕ, cond, Bool, true, false, ◌&&◌, List, [], ◌∷◌, ◌++◌, map, Option, Some, None, refl}
 use Rattle.std.proofs.Common.{ap, ◌∙◌, subst}
-use Rattle.std.proofs.lemmas.Bool.{and_parts}
+use Rattle.std.proofs.lemmas.Bool.{and_from, and_parts}
 use Rattle.fore_base.specs.Lists.{Every}
 use Rattle.c_ast.specs.declared.conditions.And.{And}
 use Rattle.c_ast.specs.declared.conditions.Cond as tree
@@ -73,9 +73,6 @@ module _ (g : Globals) (V : List VarDef) (D : ℕ) (F : List Func) (H : Option �
   abbrev pub Typed : List Stmt → Spot → Type 0
   Typed ss spot = each_typed (shapes g V D) V D (map (stmt_typed (shapes g V D) V D F H) ss) spot ≡ true
 
-  both : (x y : Bool) → x ≡ true → y ≡ true → (x && y) ≡ true
-  both x y left right = ap (λ b. b && y) left ∙ right
-
   pub typed_one : (s : Stmt) (spot : Spot) → stmt_typed (shapes g V D) V D F H s spot ≡ true → Typed (s ∷ []) spot
   typed_one s spot e = ap (λ b. b && true) e
 
@@ -88,7 +85,7 @@ module _ (g : Globals) (V : List VarDef) (D : ℕ) (F : List Func) (H : Option �
   typed_append (x ∷ xs) ys spot left right =
       let halves : (stmt_typed (shapes g V D) V D F H x spot ≡ true) × Typed xs spot =
       and_parts (stmt_typed (shapes g V D) V D F H x spot) _ left in
-      both (stmt_typed (shapes g V D) V D F H x spot) _ halves.0 (typed_append xs ys spot halves.1 right)
+      and_from (stmt_typed (shapes g V D) V D F H x spot) _ halves.0 (typed_append xs ys spot halves.1 right)
 
   -- parts of a condition
   each_part : {X : Type 0} (sites : X → List Site) (made : X → Cond) (xs : List X)
@@ -99,7 +96,7 @@ module _ (g : Globals) (V : List VarDef) (D : ℕ) (F : List Func) (H : Option �
   each_part sites made (x ∷ xs) all c =
       let halves : IsClean g (sites x) × IsClean g (joined (map sites xs)) =
       clean_parts g (sites x) (joined (map sites xs)) c in
-      both (cond_typed (shapes g V D) V D (made x)) _ (all.0 halves.0) (each_part sites made xs all.1 halves.1)
+      and_from (cond_typed (shapes g V D) V D (made x)) _ (all.0 halves.0) (each_part sites made xs all.1 halves.1)
 
   module _ (n : ℕ) (globals : GoodGlobals n g) (scope : Scope) (blocks : GoodBlocks g V D scope.blocks)
       (funcs : GoodFuncs g V D g.functions F) where

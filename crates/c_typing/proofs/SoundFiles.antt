@@ -2,9 +2,8 @@
 use Rattle.std.proofs.Common.{◌≡◌, ◌≤◌, ◌+◌, ℕ, zero, suc, Bool, true, false, not, ◌&&◌, cond, nat_le, List, [], ◌∷◌}
 use Rattle.std.proofs.Common.{◌++◌, length, map, codes, Option, Some, None, refl, sym, ap, ◌∙◌, subst, arith}
 use Rattle.std.proofs.Common.{true≢false}
-use Rattle.std.proofs.lemmas.Bool.{eq-eqb, false_from_ne_true, or_from, or_parts}
+use Rattle.std.proofs.lemmas.Bool.{eq-eqb, false_from_ne_true, or_parts}
 use Rattle.std.proofs.lemmas.List.{append-nil, length-map}
-use Rattle.std.specs.Cmp.Lexicographic.{bytes_decides}
 use Rattle.std.specs.List.{list_all}
 use Rattle.fore_base.proofs.ListLemmas.{every_append, every_in, every_tests, every_weaker, in_every}
 use Rattle.fore_base.specs.Lists.{IsIn, Every}
@@ -30,15 +29,15 @@ use Rattle.c_types.specs.declared.program.VarRef.{VarRef}
 use Rattle.c_types.specs.declared.program.VarRef.TheVariants.{Ptr, Data}
 use Rattle.c_typing.specs.Globals.{Globals, Definition, defined_name, maybe_defined, structs_in, struct_definitions}
 use Rattle.c_typing.specs.Globals.{pointer_member, datum_member, members_in, struct_of, datum_of, values_from}
-use Rattle.c_typing.specs.Globals.{values_in, value_name, globals_of, struct_name, is_main}
+use Rattle.c_typing.specs.Globals.{values_in, value_name, globals_of, struct_name}
 use Rattle.c_typing.specs.Globals.{function_of, head_name, functions_in, function_heads, functions_of}
 use Rattle.c_typing.specs.Globals.{function_name, function_number}
-use Rattle.c_typing.specs.ItemSites.{Seen, nothing_seen, seen_after, names_of, member_sites, field_type_sites}
+use Rattle.c_typing.specs.ItemSites.{Seen, defined_sites, nothing_seen, seen_after, names_of, field_type_sites}
 use Rattle.c_typing.specs.ItemSites.{fields_sites, struct_sites, item_sites, items_sites}
 use Rattle.c_typing.specs.Programs.{field_of, field_kind_of, shape_of, program_in, program_of, funcs_in, main_in}
 use Rattle.c_typing.specs.Scopes.{Scope, empty_scope, is_declared, past_item, past_items}
 use Rattle.c_typing.specs.Sites as site
-use Rattle.c_typing.specs.Texts.{Text, same, has, number_of, one_more, firsts, each_of}
+use Rattle.c_typing.specs.Texts.{Text, same, has, number_of, one_more, each_of}
 use Rattle.c_typing.specs.Typing.{breaches, or_else, overweight, site_breaches}
 use Rattle.c_typing.specs.declared.meaning.Kind.{Kind}
 use Rattle.c_typing.specs.declared.meaning.Kind.TheVariants.{Points, Datum}
@@ -47,6 +46,7 @@ use Rattle.c_typing.specs.declared.meaning.StructDef.{StructDef}
 use Rattle.c_typing.proofs.Clean.{IsClean, clean_parts, clean_first, struct_there}
 use Rattle.c_typing.proofs.FileCounts.{items_counted, main_vars}
 use Rattle.c_typing.proofs.FileNames.{heads_first}
+use Rattle.c_typing.proofs.Firsts.{firsts_every, main_new, names_of_structs}
 use Rattle.c_typing.proofs.OwnVariables.{among_counted, count, hit, once_different}
 use Rattle.c_typing.proofs.ScopeLaws.{Within}
 use Rattle.c_typing.proofs.Sound.{GoodKind, GoodMember, GoodStruct, GoodValue, GoodGlobals, shapes}
@@ -54,17 +54,6 @@ use Rattle.c_typing.proofs.SoundCalls.{GoodFuncs}
 use Rattle.c_typing.proofs.SoundFunctions.{AllFacts, CallFacts, FileIs, ItemFacts, bodies_right, funcs_good, in_among}
 use Rattle.c_typing.proofs.SoundFunctions.{items_facts}
 use Rattle.c_typing.proofs.SoundStmts.{struct_kind}
-
-firsts_every : {X : Type 0} (P : X → Type 0) (name : X → Text) (seen : List Text) (xs : List X) → Every P xs
-    → Every P (firsts name seen xs)
-firsts_every P name seen [] all = tt
-firsts_every P name seen (x ∷ xs) all =
-    either (has (name x) seen) (firsts_every P name seen xs all.1) (firsts_every P name (seen ++ name x ∷ []) xs all.1)
-  where
-    either : (there : Bool) → Every P (firsts name seen xs) → Every P (firsts name (seen ++ name x ∷ []) xs)
-        → Every P (cond there (firsts name seen xs) (x ∷ firsts name (seen ++ name x ∷ []) xs))
-    either true old new = old
-    either false old new = (all.0, new)
 
 -- Enumerators
 
@@ -92,11 +81,6 @@ all_values (i ∷ is) = every_append GoodValue (values_in i) (each_of values_in 
 
 -- Structs
 
-names-same : (names : List Text) (ds : List Definition) → map struct_name (map (struct_of names) ds)
-    ≡ map defined_name ds
-names-same names [] = refl
-names-same names (d ∷ ds) = ap (λ k. defined_name d ∷ k) (names-same names ds)
-
 module _ (g : Globals) where
   abbrev FieldClean : Field → Type 0
   FieldClean f = IsClean g (field_type_sites f)
@@ -107,10 +91,11 @@ module _ (g : Globals) where
   fields_clean : (earlier : List Text) (fs : List Field) → IsClean g (fields_sites earlier fs) → Every FieldClean fs
   fields_clean earlier [] c = tt
   fields_clean earlier (f ∷ fs) c =
-      let halves : IsClean g (field_type_sites f ++ member_sites earlier (names_of f))
+      let members : List site.Site = defined_sites site.Member earlier (length earlier) (names_of f) in
+      let halves : IsClean g (field_type_sites f ++ members)
       × IsClean g (fields_sites (earlier ++ map _ (names_of f)) fs) =
-      clean_parts g (field_type_sites f ++ member_sites earlier (names_of f)) _ c in
-      ((clean_parts g (field_type_sites f) (member_sites earlier (names_of f)) halves.0).0, fields_clean _ fs halves.1)
+      clean_parts g (field_type_sites f ++ members) _ c in
+      ((clean_parts g (field_type_sites f) members halves.0).0, fields_clean _ fs halves.1)
 
   struct_clean : (s : Seen) (name : Name) (fields : Option (List Field)) → IsClean g (struct_sites s name fields)
       → Every DefinitionClean (maybe_defined name fields)
@@ -173,7 +158,7 @@ globals_good : (is : List Item) → IsClean (globals_of is) (items_sites (global
     → GoodGlobals (length (globals_of is).structs) (globals_of is)
 globals_good is c =
     let names : List Text = map defined_name (struct_definitions is) in (
-      structs_good (globals_of is) names (names-same names (struct_definitions is)) (struct_definitions is)
+      structs_good (globals_of is) names (names_of_structs names (struct_definitions is)) (struct_definitions is)
           (firsts_every (DefinitionClean (globals_of is)) defined_name [] (each_of structs_in is)
           (items_clean (globals_of is) nothing_seen is empty_scope c)),
       firsts_every GoodValue value_name [] (each_of values_in is) (all_values is),
@@ -196,47 +181,10 @@ shapes_good n [] all = refl
 shapes_good n (s ∷ ss) all = ap (λ b. b && shapes_typed n (map shape_of ss)) (targets_below n s.fields all.0)
     ∙ shapes_good n ss all.1
 
--- `main` has no number among the functions.
-
-other_way : (x y : Text) → same y x ≡ false → same x y ≡ false
-other_way x y differ = false_from_ne_true (same x y)
-    (λ is. true≢false (sym ((bytes_decides y x).1 (sym ((bytes_decides x y).0 is))) ∙ differ))
-
 number-none : (x : Text) (ys : List Text) → has x ys ≡ false → number_of x ys ≡ None
 number-none x [] none = refl
 number-none x (y ∷ ys) none = let h : (same x y ≡ false) × (has x ys ≡ false) = or_parts (same x y) (has x ys) none in
     ap (λ b. cond b (Some 0) (one_more (number_of x ys))) h.0 ∙ ap one_more (number-none x ys h.1)
-
-abbrev IsOther : Head → Type 0
-IsOther h = is_main h ≡ false
-
-item_others : (i : Item) → Every IsOther (functions_in i)
-item_others (item.Struct at name fields) = tt
-item_others (item.Enum at name values) = tt
-item_others (item.Proto outer head) = tt
-item_others (item.Function head body) = either (is_main head) refl
-  where
-    either : (k : Bool) → is_main head ≡ k → Every IsOther (cond k [] (head ∷ []))
-    either true is = tt
-    either false is = (is, tt)
-item_others (item.Declare d) = tt
-
-all_others : (is : List Item) → Every IsOther (each_of functions_in is)
-all_others [] = tt
-all_others (i ∷ is) = every_append IsOther (functions_in i) (each_of functions_in is) (item_others i) (all_others is)
-
-main_absent : (names : List Text) (hs : List Head) → Every IsOther hs
-    → has (codes "main") (map function_name (map (function_of names) hs)) ≡ false
-main_absent names [] all = refl
-main_absent names (h ∷ hs) all =
-    or_from (same (codes "main") h.name.text) _ (other_way (codes "main") h.name.text all.0)
-    (main_absent names hs all.1)
-
-main_unnumbered : (is : List Item) → function_number (globals_of is) (codes "main") ≡ None
-main_unnumbered is =
-    number-none (codes "main") (map function_name (functions_of is))
-    (main_absent (map defined_name (struct_definitions is)) (function_heads is)
-    (firsts_every IsOther head_name [] (each_of functions_in is) (all_others is)))
 
 -- The functions of a file are those of its heads.
 
@@ -244,6 +192,11 @@ names-heads : (names : List Text) (hs : List Head) → map function_name (map (f
     ≡ map head_name hs
 names-heads names [] = refl
 names-heads names (h ∷ hs) = ap (λ ns. head_name h ∷ ns) (names-heads names hs)
+
+main_unnumbered : (is : List Item) → function_number (globals_of is) (codes "main") ≡ None
+main_unnumbered is =
+    number-none (codes "main") (map function_name (functions_of is))
+    (ap (has (codes "main")) (names-heads (map defined_name (struct_definitions is)) (function_heads is)) ∙ main_new is)
 
 file_is : (is : List Item) → FileIs (globals_of is) is
 file_is is = record {
@@ -290,7 +243,7 @@ module _ (is : List Item)
   funcs : GoodFuncs g V D g.functions F
   funcs = subst (λ ds. GoodFuncs g V D ds F)
       (ap (λ ns. map (function_of ns) (each_of functions_in is))
-      (names-same (map defined_name (struct_definitions is)) (struct_definitions is))
+      (names_of_structs (map defined_name (struct_definitions is)) (struct_definitions is))
       ∙ ap (map (function_of (map defined_name (struct_definitions is)))) (sym all_heads))
       (funcs_good g V D (length g.structs) refl nothing_seen is empty_scope inside c)
 

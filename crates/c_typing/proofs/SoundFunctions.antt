@@ -3,7 +3,7 @@
 use Rattle.std.proofs.Common.{◌≡◌, ◌<◌, ℕ, zero, suc, Bool, true, false, cond, ◌&&◌, nat_eq, List, [], ◌∷◌, ◌++◌}
 use Rattle.std.proofs.Common.{length}
 use Rattle.std.proofs.Common.{map, codes, Option, Some, None, slice_get, inl, inr, refl, sym, ap, ◌∙◌, subst, arith}
-use Rattle.std.proofs.lemmas.Bool.{or_parts}
+use Rattle.std.proofs.lemmas.Bool.{and_from, or_parts}
 use Rattle.std.proofs.lemmas.List.{append_assoc, length-append}
 use Rattle.std.proofs.lemmas.Option.{none-some, same_Some}
 use Rattle.std.specs.Cmp.Lexicographic.{bytes_decides}
@@ -58,9 +58,6 @@ every_among : (vs ws : List VarRef) → Every (λ w. IsIn w vs) ws → all_among
 every_among vs ws all =
     every_tests (is_among vs) ws
     (every_weaker (λ w. IsIn w vs) (λ w. is_among vs w ≡ true) ws (λ w i. in_among w vs i) all)
-
-both : (x y : Bool) → x ≡ true → y ≡ true → (x && y) ≡ true
-both x y left right = ap (λ b. b && y) left ∙ right
 
 -- what a body names and calls, statement by statement
 
@@ -169,9 +166,9 @@ module _ (g : Globals) where
   own_kept h b scope named' =
       let ds : List VarRef = body_declares (body_stmts g h b scope) in
       let self : all_among ds ds ≡ true = every_among ds ds (in_every (λ v. IsIn v ds) ds (λ v i. i)) in
-      both (all_among (own_vars (func_of g h b scope)) (body_names (body_stmts g h b scope))) _
+      and_from (all_among (own_vars (func_of g h b scope)) (body_names (body_stmts g h b scope))) _
       (every_among (own_vars (func_of g h b scope)) (body_names (body_stmts g h b scope)) named')
-      (both (all_among ds ds) (all_among ds ds) self self)
+      (and_from (all_among ds ds) (all_among ds ds) self self)
 
   module _ (V : List VarDef) (D : ℕ) where
     -- what is declared where a body begins
@@ -271,7 +268,7 @@ module _ (g : Globals) where
           let called' : Every (CallFacts g m) (body_calls (body_stmts g h b scope)) =
           body_named_each (CallFacts g m) stmt_calls (body_stmts g h b scope)
           (every_weaker _ (λ t. Every (CallFacts g m) (stmt_calls t)) (body_stmts g h b scope) (λ t p. p.1) right) in (
-            both (body_typed (shapes g V D) V D F (Some m) (body_stmts g h b scope)) _
+            and_from (body_typed (shapes g V D) V D F (Some m) (body_stmts g h b scope)) _
                 (function_typed s h b scope (Some m) c w vars number).0 (own_kept h b scope named'),
             called',
           )
@@ -373,5 +370,5 @@ module _ (g : Globals) where
           → bodies_typed (shapes g V D) V D F m fs ≡ true
       bodies_right m [] facts = refl
       bodies_right m (f ∷ fs) facts =
-          both (body_typed (shapes g V D) V D F (Some m) f.body && keeps_to_own f) _ facts.0.0
+          and_from (body_typed (shapes g V D) V D F (Some m) f.body && keeps_to_own f) _ facts.0.0
           (bodies_right (suc m) fs facts.1)

@@ -24,7 +24,7 @@ use Rattle.c_typing.specs.Texts.{Text}
 use Rattle.c_typing.specs.declared.meaning.Kind.{Kind}
 use Rattle.c_typing.specs.declared.meaning.Kind.TheVariants.{Points, Datum}
 use Rattle.c_typing.proofs.Clean.{IsClean, clean_first, clean_parts, struct_there}
-use Rattle.c_typing.proofs.ScopeLaws.{Within, back_declared, block_keeps, declared_good, declared_vars, home_declared}
+use Rattle.c_typing.proofs.ScopeLaws.{Within, back_declared, block_keeps, declared_good, declared_vars, home-declared}
 use Rattle.c_typing.proofs.ScopeLaws.{next_good}
 use Rattle.c_typing.proofs.Sound.{GoodBlocks, GoodKind, number_below}
 use Rattle.c_typing.proofs.SoundCalls.{GoodRef, GoodRefs, GoodResult}
@@ -40,11 +40,11 @@ params_home : (g : Globals) (ps : List Param) (scope : Scope) → (past_params g
 params_home g [] scope = refl
 params_home g (p ∷ ps) scope =
     params_home g ps (declared scope (param_name p).text (param_kind (struct_names g) p))
-    ∙ home_declared scope (param_name p).text (param_kind (struct_names g) p)
+    ∙ home-declared scope (param_name p).text (param_kind (struct_names g) p)
 
 result_home : (k : Option Kind) (x : Text) (scope : Scope) → (result_declared k x scope).home ≡ scope.home
 result_home None x scope = refl
-result_home (Some k) x scope = home_declared scope (x ++ codes "()") k
+result_home (Some k) x scope = home-declared scope (x ++ codes "()") k
 
 pub head_home : (g : Globals) (h : Head) (scope : Scope) → (past_head g h scope).home ≡ function_number g h.name.text
 head_home g h scope = params_home g (params_of h.params) (opened (past_result g h scope))

@@ -49,7 +49,7 @@ use Rattle.c_typing.proofs.Clean.{IsClean, clean_parts, clean_first, struct_ther
 use Rattle.c_typing.proofs.ProgramLayers as made
 use Rattle.c_typing.proofs.ScopeLayers as past
 use Rattle.c_typing.proofs.ScopeLaws.{Within, back_all, stmt_keeps, other_kept, part_back, next_good, innermost_good}
-use Rattle.c_typing.proofs.ScopeLaws.{declared_good, declared_vars, home_declared, ptrs_below, datums_below}
+use Rattle.c_typing.proofs.ScopeLaws.{declared_good, declared_vars, home-declared, ptrs_below, datums_below}
 use Rattle.c_typing.proofs.SiteLayers as sites
 use Rattle.c_typing.proofs.Sound.{GoodKind, GoodGlobals, shapes, GoodBlocks, number_below}
 use Rattle.c_typing.proofs.SoundCalls.{GoodFuncs, return_typed}
@@ -123,7 +123,7 @@ module _ (g : Globals) (V : List VarDef) (D n : ℕ) (size : length g.structs �
       × Ready (all_declared k ds (declared scope d.name.text k)) =
       declarators_typed k ds (declared scope d.name.text k) spot kind w (
         declared_good g V D n scope d.name.text k kind here ready.0,
-        (declared_vars g V D n scope d.name.text k kind ready.1.0, home_declared scope d.name.text k ∙ ready.1.1),
+        (declared_vars g V D n scope d.name.text k kind ready.1.0, home-declared scope d.name.text k ∙ ready.1.1),
       ) halves.1 in
       (typed_append g V D F H _ _ spot (initialised_typed scope k d spot kind here ready.0 d.from from) rest.0, rest.1)
 

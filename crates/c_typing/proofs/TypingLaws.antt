@@ -2,7 +2,8 @@
 use Rattle.std.proofs.Common.{◌≡◌, ◌≤◌, ◌<◌, ◌⊎◌, inl, inr, ℕ, zero, suc, Bool, true, false, ◌&&◌, ◌||◌, nat_eq, nat_lt}
 use Rattle.std.proofs.Common.{List, [], ◌∷◌, refl, sym, ap, ◌∙◌, subst, true≢false, arith}
 use Rattle.std.proofs.lemmas.Bool.{and_parts, cases_lt, eq-eqb, eqb-true, false_from_ne_true, le-ltb, ltb-false}
-use Rattle.std.proofs.lemmas.Bool.{ltb-true, or_from}
+use Rattle.std.proofs.lemmas.Bool.{ltb-true, or_cases, or_from, or_parts}
+use Rattle.fore_base.proofs.ListLemmas.{every_in}
 use Rattle.fore_base.specs.Lists.{IsIn, Every}
 use Rattle.c_ast.specs.declared.items.Unit as whole
 use Rattle.c_types.specs.Program.{Program}
@@ -13,15 +14,11 @@ use Rattle.c_typing.specs.declared.fault.TypeFault.TheVariants.{Rule, Limit, Mem
 
 -- The order is total: two faults of which none is before the other are one.
 
-or_halves : (x y : Bool) → (x || y) ≡ false → (x ≡ false) × (y ≡ false)
-or_halves true y e = absurd (true≢false e)
-or_halves false y e = (refl, e)
-
 same_head : (m n : ℕ) (b c : Bool) → (nat_lt m n || (nat_eq m n && b)) ≡ false → (nat_lt n m || (nat_eq n m && c))
     ≡ false → (m ≡ n) × ((b ≡ false) × (c ≡ false))
 same_head m n b c e f =
-    let left : (nat_lt m n ≡ false) × ((nat_eq m n && b) ≡ false) = or_halves (nat_lt m n) (nat_eq m n && b) e in
-    let right : (nat_lt n m ≡ false) × ((nat_eq n m && c) ≡ false) = or_halves (nat_lt n m) (nat_eq n m && c) f in
+    let left : (nat_lt m n ≡ false) × ((nat_eq m n && b) ≡ false) = or_parts (nat_lt m n) (nat_eq m n && b) e in
+    let right : (nat_lt n m ≡ false) × ((nat_eq n m && c) ≡ false) = or_parts (nat_lt n m) (nat_eq n m && c) f in
     let up : n ≤ m = ltb-false m n left.0 in
     let down : m ≤ n = ltb-false n m right.0 in
     let is : m ≡ n = omega (arith, up, down) in
@@ -50,14 +47,9 @@ fault-ranks Memory = refl
 pub level_faults : (d e : TypeFault) → before d e ≡ false → before e d ≡ false → d ≡ e
 level_faults d e b c = sym (fault-ranks d) ∙ ap fault_of (less_level (ranks d) (ranks e) b c) ∙ fault-ranks e
 
-every_in : {X : Type 0} (P : X → Type 0) (x : X) (xs : List X) → IsIn x xs → Every P xs → P x
-every_in P x [] here all = absurd here
-every_in P x (y ∷ ys) (inl is) all = subst P (sym is) all.0
-every_in P x (y ∷ ys) (inr later) all = every_in P x ys later all.1
-
 pub one_first : (es : List TypeFault) (d e : TypeFault) → IsFirst d es → IsFirst e es → d ≡ e
-one_first es d e p q = level_faults d e (every_in (λ f. before f e ≡ false) d es p.0 q.1)
-    (every_in (λ f. before f d ≡ false) e es q.0 p.1)
+one_first es d e p q = level_faults d e (every_in (λ f. before f e ≡ false) es d q.1 p.0)
+    (every_in (λ f. before f d ≡ false) es e p.1 q.0)
 
 pub one_first_fault : (u : whole.Unit) (d e : TypeFault) → IsFirstFault u d → IsFirstFault u e → d ≡ e
 one_first_fault u d e p q = one_first (breaches u) d e p q
@@ -82,10 +74,6 @@ differs : (x z : ℕ) → z < x → nat_eq x z ≡ false
 differs x z below = false_from_ne_true (nat_eq x z)
     (λ same. let is : x ≡ z = eqb-true x z same in omega (arith, below, is))
 
-or_cases : (a b : Bool) → (a || b) ≡ true → (a ≡ true) ⊎ (b ≡ true)
-or_cases true b e = inl refl
-or_cases false b e = inr e
-
 less_chain : (xs ys zs : List ℕ) → less xs ys ≡ false → less zs ys ≡ true → less xs zs ≡ false
 less_chain [] [] [] e f = refl
 less_chain [] [] (z ∷ zs) e f = absurd (true≢false (sym f))
@@ -101,7 +89,7 @@ less_chain (x ∷ xs) (y ∷ ys) (z ∷ zs) e f = elim (cases_lt z x) [
 ]
   where
     left : (nat_lt x y ≡ false) × ((nat_eq x y && less xs ys) ≡ false)
-    left = or_halves (nat_lt x y) (nat_eq x y && less xs ys) e
+    left = or_parts (nat_lt x y) (nat_eq x y && less xs ys) e
 
     up : y ≤ x
     up = ltb-false x y left.0

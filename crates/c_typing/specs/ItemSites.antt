@@ -18,8 +18,8 @@ use Rattle.c_typing.specs.BodySites.{data_sites, type_sites, block_sites, block_
 use Rattle.c_typing.specs.Globals.{Globals, text_of, struct_names, is_main, param_kind, params_of}
 use Rattle.c_typing.specs.Scopes.{Scope, empty_scope, innermost, var_name, declared_so_far, opened, declared}
 use Rattle.c_typing.specs.Scopes.{declarators_of, begun, result_of, past_result, param_name, past_head, past_item}
-use Rattle.c_typing.specs.Sites.{Struct, Enum, Value, Member, Variable, Function, Parameter, Site, UsesStruct, Defines}
-use Rattle.c_typing.specs.Sites.{Counts, Declares, Functions, Globally, Ends, Overflows}
+use Rattle.c_typing.specs.Sites.{Family, Struct, Enum, Value, Member, Variable, Function, Parameter, Site, UsesStruct}
+use Rattle.c_typing.specs.Sites.{Defines, Counts, Declares, Functions, Globally, Ends, Overflows}
 use Rattle.c_typing.specs.Texts.{Text}
 use Rattle.c_typing.specs.declared.meaning.Kind.{Kind}
 
@@ -68,11 +68,12 @@ seen_after s (item.Function head body) =
     }
 seen_after s (item.Declare d) = s
 
--- Definitions: names of one family, one after the other, each counted with those before it
-
-abbrev pub member_sites : List Text → List Name → List Site
-member_sites earlier [] = []
-member_sites earlier (n ∷ ns) = Defines Member n earlier (length earlier) ∷ member_sites (earlier ++ n.text ∷ []) ns
+-- Definitions: names of one family, one after the other, each counted with those before it; none may repeat an earlier
+-- one
+abbrev pub defined_sites : Family → List Text → ℕ → List Name → List Site
+defined_sites family earlier count [] = []
+defined_sites family earlier count (n ∷ ns) =
+    Defines family n earlier count ∷ defined_sites family (earlier ++ n.text ∷ []) (suc count) ns
 
 abbrev pub field_type_sites : Field → List Site
 field_type_sites (field.Pointers at name fields) = UsesStruct name ∷ []
@@ -84,13 +85,8 @@ names_of (field.Datums base fields) = fields
 
 abbrev pub fields_sites : List Text → List Field → List Site
 fields_sites earlier [] = []
-fields_sites earlier (f ∷ fs) = (field_type_sites f ++ member_sites earlier (names_of f))
+fields_sites earlier (f ∷ fs) = (field_type_sites f ++ defined_sites Member earlier (length earlier) (names_of f))
     ++ fields_sites (earlier ++ map text_of (names_of f)) fs
-
--- enumerators: none may repeat one of the file, and those of one enumeration are counted
-abbrev pub value_sites : List Text → ℕ → List Name → List Site
-value_sites earlier n [] = []
-value_sites earlier n (x ∷ xs) = Defines Value x earlier n ∷ value_sites (earlier ++ x.text ∷ []) (suc n) xs
 
 -- a struct without braces is named only
 abbrev pub struct_sites : Seen → Name → Option (List Field) → List Site
@@ -154,8 +150,9 @@ module _ (g : Globals) where
 
   abbrev pub item_sites : Seen → Item → Scope → List Site
   item_sites s (item.Struct at name fields) scope = struct_sites s name fields
+  -- enumerators: none may repeat one of the file, and those of one enumeration are counted
   item_sites s (item.Enum at name values) scope =
-      Defines Enum name s.enums (length s.enums) ∷ value_sites s.values 0 values
+      Defines Enum name s.enums (length s.enums) ∷ defined_sites Value s.values 0 values
   item_sites s (item.Proto outer head) scope = proto_sites head
   item_sites s (item.Function head body) scope = head_sites s head scope ++ body_sites body (past_head g head scope)
   item_sites s (item.Declare d) scope = type_sites d ++ global_sites (declarators_of d)

@@ -1,6 +1,5 @@
 -- The program that a file is. It is one for each file; where a rule is broken it has 0 or a null pointer in the place
--- of what is not there, and
--- nobody sees it.
+-- of what is not there, and nobody sees it.
 use Rattle.std.specs.Prelude.{ℕ, Bool, true, false, not, cond, nat_eq, List, [], ◌∷◌, ◌++◌, map, length, Option, Some}
 use Rattle.std.specs.Prelude.{None}
 use Rattle.fore_base.specs.declared.place.Place.{Place}

@@ -58,6 +58,11 @@ abbrev pub innermost : List (List Var) → List Var
 innermost [] = []
 innermost (b ∷ bs) = b
 
+-- all blocks but the innermost one
+abbrev pub outer : {X : Type 0} → List (List X) → List (List X)
+outer [] = []
+outer (b ∷ bs) = bs
+
 -- how many variables were declared
 abbrev pub declared_so_far : Scope → ℕ
 declared_so_far scope = length scope.vars + length scope.data_vars

@@ -1,6 +1,5 @@
 -- The places of a file where a rule may be broken, each with what is known there; and those of paths, operands, right
--- sides and conditions, about in the
--- order of the text.
+-- sides and conditions, about in the order of the text.
 use Rattle.std.specs.Prelude.{ℕ, Bool, true, false, not, List, [], ◌∷◌, ◌++◌, Option, Some, None}
 use Rattle.fore_base.specs.declared.place.Place.{Place}
 use Rattle.c_ast.specs.declared.conditions.And.{And, fold-And, And-F}
@@ -28,6 +27,9 @@ use Rattle.c_typing.specs.Meanings.{meaning_of_name, meaning_of_path, meaning_of
 use Rattle.c_typing.specs.Profile.{is_allowed}
 use Rattle.c_typing.specs.Scopes.{Scope}
 use Rattle.c_typing.specs.Texts.{Text, is_empty, joined}
+pub use Rattle.c_typing.specs.declared.meaning.Family.{Family}
+pub use Rattle.c_typing.specs.declared.meaning.Family.TheVariants.{Struct, Enum, Value, Member, Variable, Function}
+pub use Rattle.c_typing.specs.declared.meaning.Family.TheVariants.{Parameter}
 use Rattle.c_typing.specs.declared.meaning.FunctionDef.{FunctionDef}
 use Rattle.c_typing.specs.declared.meaning.Kind.{Kind}
 use Rattle.c_typing.specs.declared.meaning.Kind.TheVariants.{Points, Datum as DatumKind}
@@ -37,17 +39,6 @@ use Rattle.c_typing.specs.declared.meaning.Want.{Want}
 use Rattle.c_typing.specs.declared.meaning.Want.TheVariants.{Pointer as APointer, Datum as ADatum, Either}
 use Rattle.c_typing.specs.declared.meaning.Spot.{Spot}
 use Rattle.c_typing.specs.declared.meaning.Spot.TheVariants.{Statement, Condition, Right, Elsewhere}
-
--- what is defined under a name; each family is looked up by itself
-pub data Family : Type 0 where
-  Struct : Family
-  Enum : Family
-  Value : Family
-  Member : Family
-  Variable : Family
-  Function : Family
-  -- of a prototype, whose parameters are no variables
-  Parameter : Family
 
 pub data Site : Type 0 where
   -- a struct is named

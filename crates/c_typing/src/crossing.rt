@@ -2,7 +2,7 @@
 
 use crate::fault::TypeFault;
 use crate::meaning::{
-    Enumerator, FieldUse, FunctionDef, Kind, Meaning, Member, Spot, StructDef, Want,
+    Enumerator, Family, FieldUse, FunctionDef, Kind, Meaning, Member, Spot, StructDef, Want,
 };
 use fore_base::crossing::crosses;
 
@@ -44,6 +44,11 @@ pub fn use_crosses(field: &FieldUse) {
 /// What operands are crosses threads.
 pub fn meaning_crosses(meaning: &Meaning) {
     crosses(meaning)
+}
+
+/// What is defined crosses threads.
+pub fn family_crosses(family: &Family) {
+    crosses(family)
 }
 
 /// What is wanted crosses threads.

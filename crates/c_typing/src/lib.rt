@@ -1,9 +1,8 @@
 //! When a syntax tree is a program: names, types and limits, and the program that a tree is, apart from any checker.
 //!
 //! `specs/Sites.antt` has the places of a tree where a rule may be broken, `specs/Rules.antt` one definition for each
-//! rule, and
-//! `specs/Programs.antt` the program of a tree. `specs/Typing.antt` has what a checker promises: the first broken rule,
-//! or the program.
+//! rule, and `specs/Programs.antt` the program of a tree. `specs/Typing.antt` has what a checker promises: the first
+//! broken rule, or the program.
 #![tactic(auto)]
 
 pub mod crossing;
@@ -14,5 +13,5 @@ pub mod meaning;
 
 pub use fault::TypeFault;
 pub use meaning::{
-    Enumerator, FieldUse, FunctionDef, Kind, Meaning, Member, Spot, StructDef, Want,
+    Enumerator, Family, FieldUse, FunctionDef, Kind, Meaning, Member, Spot, StructDef, Want,
 };

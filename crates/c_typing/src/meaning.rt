@@ -72,6 +72,21 @@ pub enum Meaning {
     Broken,
 }
 
+/// What is defined under a name. Each family is looked up by itself.
+#[derive(Clone, Copy)]
+pub enum Family {
+    Struct,
+    Enum,
+    /// An enumerator.
+    Value,
+    /// A field of a struct.
+    Member,
+    Variable,
+    Function,
+    /// A parameter of a prototype, which is no variable.
+    Parameter,
+}
+
 /// What is wanted where an operand stands.
 #[derive(Clone, Copy)]
 pub enum Want {

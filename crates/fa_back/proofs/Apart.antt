@@ -119,3 +119,12 @@ one_edge (z ∷ es) a e g n (inr i) (inr j) x y = one_edge es
     drop_differ : (xs ys : List ℕ) → IsDistinct (xs ++ ys) → IsDistinct ys
     drop_differ [] ys a = a
     drop_differ (x ∷ xs) ys a = drop_differ xs ys a.1
+
+-- a head of the edges is one of some edge
+pub head_edge : (es : List Edge) (n : ℕ) → IsIn n (heads (inner es)) → (e : Edge) × IsIn e es × IsIn n (heads e.facts)
+head_edge [] n i = absurd i
+head_edge (x ∷ es) n i = elim (in_append n (heads x.facts) (heads (inner es))
+    (rw (flat_map-append head_of x.facts (inner es)) at i)) [
+      | inl j ↦ (x, inl refl, j)
+      | inr j ↦ (let k = head_edge es n j in (k.0, inr k.1, k.2))
+    ]

@@ -1,6 +1,7 @@
 -- The cell of a root is reached exactly where the root is met.
-use Rattle.std.proofs.Common.{◌≡◌, ◌⊎◌, inl, inr, ℕ, suc, Bool, true, false, List, [], ◌∷◌, ◌++◌, map}
+use Rattle.std.proofs.Common.{◌≡◌, ◌⊎◌, inl, inr, ℕ, suc, true, false, List, [], ◌∷◌, ◌++◌, map}
 use Rattle.std.proofs.Common.{refl, sym, ap, subst, ◌∙◌, Option, Some, None}
+use Rattle.std.proofs.lemmas.Bool.{cases_Bool}
 use Rattle.fore_base.specs.Lists.{IsIn, IsDistinct}
 use Rattle.fore_base.specs.declared.store.Value.{Value}
 use Rattle.fore_base.specs.declared.store.Value.TheVariants.{Null as NullValue, Uninit as UninitValue}
@@ -19,7 +20,7 @@ use Rattle.fa_core.proofs.Rearranging.{back, flat_mapped, flat_map-append}
 use Rattle.fa_back.specs.Reached.{RootReached}
 use Rattle.fa_back.specs.Reached.{node_at}
 use Rattle.fa_back.specs.inner.Hops.{Edge, Hops, forest_own, forest_edges}
-use Rattle.fa_back.proofs.Apart.{forest_apart, forest_numbers, inner, in_inner, inner_in, heads_in, one_edge}
+use Rattle.fa_back.proofs.Apart.{forest_apart, forest_numbers, inner, in_inner, inner_in, heads_in, one_edge, head_edge}
 use Rattle.fa_back.proofs.FactParts.{same_or_not, in_all, number_of, no_cell, node_root, root_node, var_target}
 use Rattle.fa_back.proofs.Hopping.{Meets, IsOuter, CellMet, hops_reached, reached_hops, within}
 use Rattle.fa_back.proofs.HopsMet.{hops_met}
@@ -52,10 +53,6 @@ differ_edge (x ∷ es) e (inl h) a = subst (λ (z : Edge). IsDistinct (heads z.f
     (differ_left (heads x.facts) (heads (inner es)) (rw (flat_map-append head_of x.facts (inner es)) at a))
 differ_edge (x ∷ es) e (inr i) a = differ_edge es e i
     (differ_rest (heads x.facts) (heads (inner es)) (rw (flat_map-append head_of x.facts (inner es)) at a))
-
-is_back_or_not : (b : Bool) → (b ≡ true) ⊎ (b ≡ false)
-is_back_or_not true = inl refl
-is_back_or_not false = inr refl
 
 module _ (bs : List BoxFace) (targets : List Target) (d : Nodes)
     (sound : (x : Edge) → IsIn x (forest_edges bs (roots_of d) d) → EdgeSound x) where
@@ -143,14 +140,6 @@ module _ (bs : List BoxFace) (targets : List Target) (d : Nodes)
           every_in Hop (numbers t.1) n (hop_tree bs vars own edges vs t.1 (own_at vs d t.0 t.1 t.2)
           (edges_at bs vs d t.0 t.1 t.2) top).0 t.3
 
-      head_edge : (es : List Edge) (n : ℕ) → IsIn n (heads (inner es)) → (e : Edge) × IsIn e es × IsIn n (heads e.facts)
-      head_edge [] n i = absurd i
-      head_edge (x ∷ es) n i = elim (in_append n (heads x.facts) (heads (inner es))
-          (rw (flat_map-append head_of x.facts (inner es)) at i)) [
-            | inl j ↦ (x, inl refl, j)
-            | inr j ↦ (let k = head_edge es n j in (k.0, inr k.1, k.2))
-          ]
-
   module _ (differ : IsDistinct (heads (facts d))) where
     all_differ : IsDistinct (all_numbers d ++ heads (inner edges))
     all_differ = subst (λ (z : List ℕ). IsDistinct (z ++ heads (inner edges))) (forest_numbers bs vs d)
@@ -186,7 +175,7 @@ module _ (bs : List BoxFace) (targets : List Target) (d : Nodes)
 
     backs : (e : Edge) → IsIn e edges → (k : ℕ) → e.output ≡ Cell k → Reaches (Cell k ∷ []) e.facts e.input
         → (e.back ≡ true) ⊎ (k ≡ e.input)
-    backs e i k h w = elim (is_back_or_not e.back) [
+    backs e i k h w = elim (cases_Bool e.back) [
       | inl b ↦ inl b
       | inr b ↦ elim (same_or_not k e.input) [
         | inl x ↦ inr x

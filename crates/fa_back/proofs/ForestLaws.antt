@@ -24,7 +24,7 @@ use Rattle.fa_back.specs.Insides.{IsInside}
 use Rattle.fa_back.specs.Reached.{RootReached, IsDressedBy, CellReached, node_at, IsSignedBy, AllNameBelow, NamesBelow}
 use Rattle.fa_back.specs.Reached.{AreSignaturesOf}
 use Rattle.fa_back.specs.inner.Hops.{Edge, Hops, tree_own, tree_edges, forest_own, forest_edges}
-use Rattle.fa_back.proofs.Apart.{tree_apart, own_numbers, inner, inner_in}
+use Rattle.fa_back.proofs.Apart.{tree_apart, own_numbers, inner, inner_in, head_edge}
 use Rattle.fa_back.proofs.RootMarks.{in_mark, reach_refers}
 use Rattle.fa_back.proofs.CellsReached.{EdgeSound, kept, to_facts, reached_met, all_reached}
 use Rattle.fa_back.proofs.EdgesWorth.{TableKnown, AllFit, forest_sound}
@@ -32,7 +32,7 @@ use Rattle.fa_back.proofs.FactParts.{node_root}
 use Rattle.fa_back.proofs.Hopping.{within}
 use Rattle.fa_back.proofs.LinksFit.{trees_ends, tops_long, fit_roots}
 use Rattle.fa_back.proofs.MetHops.{met_hops, own_at, edges_at}
-use Rattle.fa_back.proofs.Open.{head_edge, tree_input}
+use Rattle.fa_back.proofs.Open.{tree_input}
 use Rattle.fa_back.proofs.TablesKnown.{table_known}
 use Rattle.fa_back.proofs.WaysUp.{hop_tree}
 

@@ -52,7 +52,7 @@ signatures_of : (bs : List BoxFace) (autos : List Automaton) (ts : List Tree) �
     → AreSignaturesOf bs autos (map (sign bs) ts)
 signatures_of bs autos ts c = record { trees = ts; choice = c; signed = all_signed bs ts }
 
-node_there : (d : Nodes) (r : ℕ) (y : Node) → node_at d r ≡ Some y → r < count d
+pub node_there : (d : Nodes) (r : ℕ) (y : Node) → node_at d r ≡ Some y → r < count d
 node_there no_nodes r y e = absurd (none-some y e)
 node_there (more n ns) zero y e = omega arith
 node_there (more n ns) (suc r) y e = let l = node_there ns r y e in omega (arith, l)

@@ -19,14 +19,8 @@ use Rattle.fa_core.proofs.WaysOf.{tree_roots}
 use Rattle.fa_back.specs.Reached.{RootReached, by_var, by_tree, by_way}
 use Rattle.fa_back.specs.Reached.{node_at}
 use Rattle.fa_back.specs.inner.Hops.{Edge, Hops, hop_var, tree_own, tree_edges, forest_own, forest_edges}
-use Rattle.fa_back.proofs.FactParts.{number_of, node_root}
+use Rattle.fa_back.proofs.FactParts.{number_of, node_root, target_var}
 use Rattle.fa_back.proofs.WaysUp.{hop_tree, up_tree}
-
-pub target_var : (vs : List Value) (ts : List Target) (r n : ℕ) → IsIn (At r) ts → nth_value vs r ≡ Cell n
-    → IsIn (Cell n) (map (value_in vs) ts)
-target_var vs [] r n h e = absurd h
-target_var vs (t ∷ ts) r n (inl x) e = inl (sym e ∙ ap (value_in vs) x)
-target_var vs (t ∷ ts) r n (inr i) e = inr (target_var vs ts r n i e)
 
 pub tree_at : (d : Nodes) (j : ℕ) (t : Tree) → slice_get (bares d) j ≡ Some t → (x : Node) × (node_at d j ≡ Some x)
     × (bare x ≡ t)

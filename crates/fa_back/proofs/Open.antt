@@ -23,7 +23,7 @@ use Rattle.fa_back.specs.Reached.{RootReached}
 use Rattle.fa_back.specs.Reached.{node_at}
 use Rattle.fa_back.specs.inner.Hops.{Edge, Hops, hop_var, tree_own, part_own, tree_edges, part_edges}
 use Rattle.fa_back.specs.inner.Hops.{end_edges, forest_own, forest_edges}
-use Rattle.fa_back.proofs.Apart.{forest_apart, forest_numbers, parts_apart, part_numbers, join, inner}
+use Rattle.fa_back.proofs.Apart.{forest_apart, forest_numbers, parts_apart, part_numbers, join, inner, head_edge}
 use Rattle.fa_back.proofs.Apart.{inner_in}
 use Rattle.fa_back.proofs.FactParts.{node_root}
 use Rattle.fa_back.proofs.Hopping.{hops_reached, within}
@@ -34,14 +34,6 @@ use Rattle.fa_back.proofs.WaysUp.{hop_tree, hop_parts}
 -- the inside as a forest of its own, whose first two roots carry the numbers of the ports
 abbrev pub own_forest : ℕ → ℕ → (s t : ℕ) (ds es : List Datum) (ps qs : Parts) → Nodes → Nodes
 own_forest c m s t ds es ps qs ns = more (node c s ds ps) (more (node m t es qs) ns)
-
-pub head_edge : (es : List Edge) (n : ℕ) → IsIn n (heads (inner es)) → (e : Edge) × IsIn e es × IsIn n (heads e.facts)
-head_edge [] n i = absurd i
-head_edge (x ∷ es) n i = elim (in_append n (heads x.facts) (heads (inner es))
-    (rw (flat_map-append head_of x.facts (inner es)) at i)) [
-      | inl j ↦ (x, inl refl, j)
-      | inr j ↦ (let k = head_edge es n j in (k.0, inr k.1, k.2))
-    ]
 
 some_tree : (f : Nodes) (n : ℕ) → IsIn n (all_numbers f) → (r : ℕ) × (x : Node) × (node_at f r ≡ Some x)
     × IsIn n (numbers x)

@@ -3,16 +3,14 @@ use Rattle.std.proofs.Common.{◌≡◌, ◌<◌, inl, inr, ℕ, zero, suc, Bool
 use Rattle.std.proofs.Common.{sym, ap, subst, ◌∙◌, Some, None, arith}
 use Rattle.std.proofs.lemmas.Option.{none-some, same_Some}
 use Rattle.fore_base.specs.Lists.{IsIn, Paired}
-use Rattle.ta_core.specs.declared.symbol.Slot.{Slot}
 use Rattle.ta_core.specs.declared.symbol.Slot.TheVariants.{Link}
-use Rattle.ta_core.specs.declared.symbol.Symbol.TheVariants.{Ref, Cell}
-use Rattle.ta_core.specs.declared.tree.Tree.{Tree, roll-Tree}
+use Rattle.ta_core.specs.declared.tree.Tree.{Tree}
 use Rattle.fa_core.specs.declared.forest.Target.TheVariants.{At}
 use Rattle.fa_core.specs.declared.signature.RefMark.{RefMark}
 use Rattle.fa_core.specs.declared.signature.Signature.{Signature}
 use Rattle.fa_core.specs.Dressed.{Node, node, no_parts, no_nodes, more}
 use Rattle.fa_core.specs.Ways.{Way, Step, ways, signature}
-use Rattle.fa_core.proofs.RowsBack.{dll, opened, root_cell, v_tree, v_ways, u_tree, u_ways, no_ways}
+use Rattle.fa_core.proofs.RowsBack.{dll, opened, root_cell, v_tree, v_ways, u_tree, u_ways, no_ways, ref, cell}
 use Rattle.fa_back.specs.Reached.{RootReached, by_var, by_way, IsMarkAt, SignReached, from_there, down_to, back_to}
 use Rattle.fa_back.specs.Reached.{reach_to, IsSignedBy, AllNameBelow, node_at}
 use Rattle.fore_search.specs.Reached.{row}
@@ -33,14 +31,7 @@ one_zero : suc zero ≡ zero → ⊥
 one_zero e = omega (arith, e)
 
 -- A doubly linked list folded into edges from the head to the tail, at which the variable is: the head is reached by
--- the
--- way back alone.
-
-abbrev ref : ℕ → Tree
-ref r = roll-Tree (record { symbol = Ref r; children = [] })
-
-abbrev cell : List Slot → List Tree → Tree
-cell ss ts = roll-Tree (record { symbol = Cell 0 [] ss; children = ts })
+-- the way back alone.
 
 abbrev folded : Tree
 folded = cell (Link 0 ∷ []) (cell (Link 0 ∷ []) (ref 0 ∷ []) ∷ [])

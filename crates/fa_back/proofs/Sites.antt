@@ -15,6 +15,7 @@ use Rattle.fa_back.specs.Reached.{node_at}
 use Rattle.fa_back.specs.inner.Hops.{Edge, tree_own, part_own, end_own, tree_edges}
 use Rattle.fa_back.specs.inner.Hops.{part_edges, end_edges, forest_own, forest_edges}
 use Rattle.fa_back.proofs.FactParts.{fact_cell, fact_value, IsPointer}
+use Rattle.fa_core.proofs.WaysOf.{map-append}
 
 -- what stands above a cell: nothing, for it is a root; or another cell
 pub data Above : Type 0 where
@@ -58,10 +59,6 @@ ends_of (hook b inside ps) = ends_of ps
 
 abbrev pub node_ends : Node → List (Option ℕ × End)
 node_ends (node c s ds ps) = ends_of ps
-
-map-append : {X Y : Type 0} (f : X → Y) (xs ys : List X) → map f (xs ++ ys) ≡ map f xs ++ map f ys
-map-append f [] ys = refl
-map-append f (x ∷ xs) ys = ap (λ (z : List _). f x ∷ z) (map-append f xs ys)
 
 mutual
   pub tree_nums : (a : Above) (n : Node) → map num (tree_sites a n) ≡ numbers n

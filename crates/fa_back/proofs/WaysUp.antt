@@ -2,6 +2,7 @@
 use Rattle.std.proofs.Common.{◌≡◌, ◌⊎◌, inl, inr, ℕ, Bool, true, false, ◌&&◌, List, [], ◌∷◌}
 use Rattle.std.proofs.Common.{map, refl, sym, ap, subst, ◌∙◌, true≢false}
 use Rattle.std.proofs.Common.{if◌then◌else◌}
+use Rattle.std.proofs.lemmas.Bool.{and_parts}
 use Rattle.fore_base.specs.Lists.{IsIn, Every}
 use Rattle.fore_base.specs.declared.store.Datum.{Datum}
 use Rattle.fore_base.specs.declared.store.Value.{Value}
@@ -46,10 +47,6 @@ leaf_way (At k) w i = go (rw (ways_leaf k) at i)
     go : IsIn w (record { root = k; steps = [] } ∷ []) → (At k ≡ At w.root) × (w.steps ≡ [])
     go (inl e) = (ap (λ (z : Way). At z.root) (sym e), ap (λ (z : Way). z.steps) e)
     go (inr e) = absurd e
-
-pub both_true : (a b : Bool) → (a && b) ≡ true → (a ≡ true) × (b ≡ true)
-both_true true b h = (refl, h)
-both_true false b h = absurd (true≢false (sym h))
 
 -- a pair stands with the slot's end
 pub in_pairs_field : (f : ℕ) (e : End) (ps : Parts) (p : Slot × Way) → IsIn p (pairs (field f e ps))
@@ -166,7 +163,7 @@ module _ (bs : List BoxFace) (vars : List Value) (own : List Fact) (edges : List
       up_parts c (field f e ps) o g p i h = elim (in_pairs_field f e ps p i) [
         | inl j ↦ (let u = up_end e (λ x i. o x (inr (in_left x (end_own vs e) (part_own vs c ps) i)))
             (λ x i. g x (in_left x (end_edges bs vs e) (part_edges bs vs c ps) i)) p.1 j.1 h in (
-              λ b. absurd (true≢false (sym (both_true (is_back bs p.0) (all_back bs p.1.steps) b).0
+              λ b. absurd (true≢false (sym (and_parts (is_back bs p.0) (all_back bs p.1.steps) b).0
                   ∙ ap (is_back bs) j.0)),
               u.1,
             ))
@@ -176,7 +173,7 @@ module _ (bs : List BoxFace) (vars : List Value) (own : List Fact) (edges : List
       up_parts c (link b inside e ps) o g p i h = elim (in_pairs_link b inside e ps p i) [
         | inl j ↦ (let u = up_end e (λ x i. o x (in_left x (end_own vs e) (part_own vs c ps) i))
             (λ x i. g x (inr (in_left x (end_edges bs vs e) (part_edges bs vs c ps) i))) p.1 j.1 h in (
-              λ t. let q = both_true (is_back bs p.0) (all_back bs p.1.steps) t in
+              λ t. let q = and_parts (is_back bs p.0) (all_back bs p.1.steps) t in
                   let x : Edge = link_edge bs vs c b inside e in
                   let there : IsIn (link_edge bs vs c b inside e) edges = g (link_edge bs vs c b inside e) (inl refl) in
                   let backs : back_of bs b ≡ true = sym (ap (is_back bs) j.0) ∙ q.0 in

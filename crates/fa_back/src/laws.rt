@@ -1,6 +1,6 @@
 // Laws of ways back and reached roots, each the contract of a function that does nothing.
 
-ghost use Rattle.std.specs.Prelude.{◌≡◌, ◌↔◌, ◌<◌, ℕ, List, [], ◌∷◌, length, Some};
+ghost use Rattle.std.specs.Prelude.{◌≡◌, ◌↔◌, ◌<◌, ℕ, List, length, Some};
 ghost use Rattle.fore_base.specs.Heap.{Leaked};
 ghost use Rattle.fore_base.specs.Lists.{IsIn, Every, IsDistinct, Paired};
 ghost use Rattle.fore_base.specs.declared.store.Store.{Store};

@@ -1,6 +1,5 @@
 // What is known of the rules of the insides of a table's boxes.
 
-ghost use Rattle.std.specs.Prelude.{◌<◌, length};
 ghost use Rattle.fore_base.specs.Lists.{Every};
 ghost use Rattle.ta_core.specs.Auto.{IsRanked};
 ghost use Rattle.fa_back.specs.Insides.{AreRankedInsides};

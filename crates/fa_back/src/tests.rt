@@ -1,6 +1,6 @@
 // Roots that are reached, worked out by hand.
 
-ghost use Rattle.std.specs.Prelude.{IsTrue, length};
+ghost use Rattle.std.specs.Prelude.{IsTrue};
 ghost use Rattle.fore_base.specs.Lists.{Every};
 ghost use Rattle.fa_core.specs.References.{AllBelow};
 ghost use Rattle.fa_back.specs.Reached.{AllNameBelow, NamesBelow};

@@ -1,14 +1,12 @@
 -- A box has one face.
-use Rattle.std.proofs.Common.{◌≡◌, ℕ, Bool, true, false, nat_le, if◌then◌else◌, List, [], ◌∷◌, map, Option, Some, None}
-use Rattle.std.proofs.Common.{slice_get, refl, sym, ap, subst, ◌∙◌, arith, ◌<◌}
-use Rattle.std.proofs.lemmas.Bool.{leb-true, leb-false}
-use Rattle.std.proofs.lemmas.Option.{same_Some}
+use Rattle.std.proofs.Common.{◌≡◌, ℕ, Bool, true, false, nat_le, List, [], ◌∷◌, map, Option, Some, None}
+use Rattle.std.proofs.Common.{slice_get, refl, sym, ap, subst, ◌∙◌, arith}
+use Rattle.std.proofs.lemmas.Bool.{leb-false}
 use Rattle.fore_base.specs.Lists.{Every, Paired}
 use Rattle.ta_core.specs.Auto.{Automaton, IsRanked}
 use Rattle.ta_core.specs.declared.tree.Tree.{Tree}
 use Rattle.fa_core.specs.declared.boxes.BoxDef.{BoxDef}
 use Rattle.fa_core.specs.declared.faces.BoxFace.{BoxFace}
-use Rattle.fa_core.specs.declared.faces.Face.{Face}
 use Rattle.fa_core.specs.declared.forest.Forest.{Forest}
 use Rattle.fa_core.specs.declared.signature.Signature.{Signature}
 use Rattle.fa_core.specs.Boxes.{Boxes, IsBoxTable, SoundBox, BackHolds, LeadsUp, LeadsNowhere, port_structs}
@@ -20,7 +18,7 @@ use Rattle.fa_core.proofs.Sorting.{order_same}
 use Rattle.fa_back.specs.Insides.{IsInside, AreRankedInsides, AlwaysReaches, NeverReaches}
 use Rattle.fa_back.specs.Reached.{IsSignedBy, AreSignaturesOf}
 use Rattle.fa_back.proofs.InsideLaws.{up_closure, nowhere_closure}
-use Rattle.fa_box_rules.specs.Rules.{IsFaceOf, GivesOutput, inside_of}
+use Rattle.fa_box_rules.specs.Rules.{GivesOutput}
 use Rattle.fa_box_rules.proofs.SoundBoxes.{begin_at, some_choice, face_is, place_tree, top_is, top_same}
 
 -- Numbers in rising order are the only ones with these items.

@@ -1,9 +1,9 @@
 -- Worked boxes: which rules they break.
-use Rattle.std.proofs.Common.{◌≡◌, inl, inr, ℕ, suc, Bool, true, false, true≢false, List, [], ◌∷◌, length, refl, sym}
+use Rattle.std.proofs.Common.{◌≡◌, inl, inr, ℕ, false, List, [], ◌∷◌, length, refl, sym}
 use Rattle.std.proofs.Common.{ap, ◌∙◌, Some, None, arith}
 use Rattle.fore_base.specs.declared.store.Value.TheVariants.{Cell as CellValue}
 use Rattle.ta_core.specs.Auto.{Automaton}
-use Rattle.ta_core.specs.Language.{InLanguage, IsBarren, RunOf, run}
+use Rattle.ta_core.specs.Language.{InLanguage}
 use Rattle.ta_core.specs.declared.symbol.Slot.TheVariants.{Field, Link}
 use Rattle.ta_core.specs.declared.symbol.Symbol.{Symbol}
 use Rattle.ta_core.specs.declared.symbol.Symbol.TheVariants.{Null, Ref, Cell}
@@ -16,7 +16,6 @@ use Rattle.fa_core.specs.Choices.{bares}
 use Rattle.fa_core.specs.Dressed.{Node, Nodes, node, no_parts, field, link, leaf, no_nodes, more}
 use Rattle.fa_core.specs.Filled.{given_at}
 use Rattle.fa_core.specs.Member.{bare, bare_end}
-use Rattle.fa_core.specs.Rearranged.{Rearranged, empty, keep, swap, chain}
 use Rattle.fa_core.proofs.Dressing.{cell_top, leaf_top}
 use Rattle.fa_core.proofs.GivenTips.{given_tips}
 use Rattle.fa_core.proofs.NodeRuns.{node_bare, end_bare}
@@ -24,14 +23,17 @@ use Rattle.fa_core.proofs.NodeSpots.{spots_are}
 use Rattle.fa_core.proofs.RowsBoxes.{port, port_node, port_runs, box_face, dll_box, dll_sound}
 use Rattle.fa_core.proofs.RowsCanonical.{rule, dll_face}
 use Rattle.fa_core.proofs.ReachedEnds.{reached_ends}
+use Rattle.fa_core.proofs.Rearranging.{long_same}
 use Rattle.fa_core.proofs.RowsChains.{chain_structs}
 use Rattle.fa_core.proofs.RowsHooks.{ring_box, ring_sound}
 use Rattle.fa_core.proofs.RowsForests.{bare_cell, bare_node, bare_runs}
+use Rattle.fa_core.proofs.RowsPorts.{two_fields, next_runs, prev_runs, null_port, null_node, null_runs, no_rules}
+use Rattle.fa_core.proofs.RowsPorts.{no_tree}
 use Rattle.fa_box_rules.specs.Rules.{Inside, Breaks, Breaks4, Breaks5, takes_leaf, other_struct, covers_apart}
 use Rattle.fa_box_rules.specs.Cells.{MayName, EndMayFit}
-use Rattle.fa_box_rules.specs.Rules.{covers_none, Breaks6, Breaks7, BreaksFirst, IsFaceOf, inside_of}
+use Rattle.fa_box_rules.specs.Rules.{covers_none, Breaks6, BreaksFirst, IsFaceOf, inside_of}
 use Rattle.fa_box_rules.specs.declared.rule.BoxRule.{BoxRule}
-use Rattle.fa_box_rules.specs.declared.rule.BoxRule.TheVariants.{B4, B5, B6, B7}
+use Rattle.fa_box_rules.specs.declared.rule.BoxRule.TheVariants.{B7}
 use Rattle.fa_box_rules.proofs.SoundBoxes.{face_is, none_broken}
 
 -- The box of a doubly linked list: it breaks none, and has its face.
@@ -89,17 +91,6 @@ port_field_twice = (
       (rw e at h.0).0.once.0 (inl refl))),
 )
 
--- lists that are rearranged are as long as each other
-abbrev long : List ℕ → ℕ
-long [] = 0
-long (x ∷ xs) = suc (long xs)
-
-same_long : {xs ys : List ℕ} → Rearranged xs ys → long xs ≡ long ys
-same_long empty = refl
-same_long (keep x r) = ap (λ n. suc n) (same_long r)
-same_long (swap x y zs) = refl
-same_long (chain a b) = same_long a ∙ same_long b
-
 -- the component behind the ports is a cell with next alone
 abbrev short_nodes : Nodes
 short_nodes = more (port_node 0 0 1) (more (port_node 1 0 0) no_nodes)
@@ -111,7 +102,7 @@ inner_cell_lacks_fields = (
   (λ h. (let e = spots_are [] (port_node 1 0 0) (given_at [] (bares short_nodes) 1) in
       let g = given_tips [] 1 short_nodes in
       let w = (rw e at h.1.0).0.once in
-      let z = same_long (rw g at w) in
+      let z = long_same (rw g at w) in
       omega (arith, z))),
 )
 
@@ -140,40 +131,6 @@ input_covers_none T = covers_none bare_cell (bare bare_node) refl bare_runs
     (λ h. (let e = cell_top 0 0 [] no_parts in rw e at h))
 
 -- the input's trees cover next or prev
-abbrev two_fields : Automaton
-two_fields = record {
-  states = 2;
-  roots = 0 ∷ [];
-  rules = rule 0 (Cell 0 [] (Field 0 ∷ [])) (1 ∷ []) ∷ rule 0 (Cell 0 [] (Field 1 ∷ [])) (1 ∷ [])
-      ∷ rule 1 (Ref 1) [] ∷ [];
-}
-
-next_runs : InLanguage two_fields (bare (port_node 0 0 1))
-next_runs = (
-  0,
-  inl refl,
-  node_bare two_fields.rules 0 (port_node 0 0 1) (
-    rule 0 (Cell 0 [] (Field 0 ∷ [])) (1 ∷ []),
-    inl refl,
-    refl,
-    refl,
-    ((rule 1 (Ref 1) [], inr (inr (inl refl)), refl, refl, refl), tt),
-  ),
-)
-
-prev_runs : InLanguage two_fields (bare (port_node 0 1 1))
-prev_runs = (
-  0,
-  inl refl,
-  node_bare two_fields.rules 0 (port_node 0 1 1) (
-    rule 0 (Cell 0 [] (Field 1 ∷ [])) (1 ∷ []),
-    inr (inl refl),
-    refl,
-    refl,
-    ((rule 1 (Ref 1) [], inr (inr (inl refl)), refl, refl, refl), tt),
-  ),
-)
-
 input_covers_either : (T : List BoxDef) → Breaks5 plain T (of_ports (two_fields ∷ port 1 0 ∷ []))
 input_covers_either T =
     let a = cell_top 0 0 [] (field 0 (leaf (At 1)) no_parts) in
@@ -184,14 +141,8 @@ input_covers_either T =
 
 -- B7, whatever else is broken
 
-abbrev no_rules : Automaton
-no_rules = record { states = 1; roots = 0 ∷ []; rules = [] }
-
-no_tree : (q : ℕ) (t : Tree) → RunOf [] q t → ⊥
-no_tree q t (run r i e s k) = i
-
 empty_component : (face : Face) (T : List BoxDef) → BreaksFirst face T (of_ports (null_leaf ∷ no_rules ∷ [])) B7
-empty_component face T = (no_rules, inr (inl refl), (λ t h. no_tree h.0 t h.2))
+empty_component face T = (no_rules, inr (inl refl), no_tree)
 
 -- A ring of an input without an output and one inner cell breaks none.
 
@@ -258,29 +209,6 @@ leaf_root_is_passed_over s = (
 )
 
 -- B6: the input's next is null, and the output is given nothing
-
-abbrev null_port : Automaton
-null_port = record {
-  states = 2;
-  roots = 0 ∷ [];
-  rules = rule 0 (Cell 0 [] (Field 0 ∷ [])) (1 ∷ []) ∷ rule 1 Null [] ∷ [];
-}
-
-abbrev null_node : Node
-null_node = node 5 0 [] (field 0 (leaf NullTarget) no_parts)
-
-null_runs : InLanguage null_port (bare null_node)
-null_runs = (
-  0,
-  inl refl,
-  node_bare null_port.rules 0 null_node (
-    rule 0 (Cell 0 [] (Field 0 ∷ [])) (1 ∷ []),
-    inl refl,
-    refl,
-    refl,
-    ((rule 1 Null [], inr (inl refl), refl, refl, refl), tt),
-  ),
-)
 
 -- a face that gives its output something: then the output is a cell
 abbrev some_face : BoxFace

@@ -1,39 +1,39 @@
 -- A sound box breaks none of the rules, and its face is what its trees show outside.
-use Rattle.std.proofs.Common.{◌≡◌, ◌≢◌, ◌⊎◌, inl, inr, ℕ, zero, suc, ◌<◌, ◌≤◌, ◌+◌, Bool, true, false, true≢false, List}
+use Rattle.std.proofs.Common.{◌≡◌, ◌≢◌, inl, inr, ℕ, zero, suc, ◌<◌, ◌≤◌, ◌+◌, Bool, true, false, true≢false, List}
 use Rattle.std.proofs.Common.{[]}
-use Rattle.std.proofs.Common.{◌∷◌, ◌++◌, map, flat_map, length, Option, Some, None, slice_get, refl, sym, ap, subst}
+use Rattle.std.proofs.Common.{◌∷◌, ◌++◌, Option, Some, None, slice_get, refl, sym, ap, subst}
 use Rattle.std.proofs.Common.{◌∙◌, arith}
 use Rattle.std.proofs.lemmas.Option.{none-some, same_Some}
 use Rattle.fore_base.specs.Lists.{IsIn, Every, IsDistinct}
-use Rattle.fore_base.specs.declared.store.Datum.{Datum}
 use Rattle.fore_base.specs.declared.store.Value.{Value}
 use Rattle.fore_base.proofs.ListLemmas.{every_in, every_weaker, place_of}
 use Rattle.ta_core.specs.Auto.{Automaton}
-use Rattle.ta_core.specs.Language.{InLanguage, IsBarren}
+use Rattle.ta_core.specs.Language.{InLanguage}
 use Rattle.ta_core.specs.declared.symbol.Slot.{Slot}
 use Rattle.ta_core.specs.declared.symbol.Slot.TheVariants.{Field, Link, Hook}
 use Rattle.ta_core.specs.declared.symbol.Symbol.{Symbol}
 use Rattle.ta_core.specs.declared.symbol.Symbol.TheVariants.{Null, Uninit, Dangling, Ref, Cell}
-use Rattle.ta_core.specs.declared.tree.Tree.{Tree, out-Tree, roll-out-Tree, para-roll-Tree}
+use Rattle.ta_core.specs.declared.tree.Tree.{Tree, out-Tree}
 use Rattle.fa_core.specs.declared.boxes.BoxDef.{BoxDef}
 use Rattle.fa_core.specs.declared.faces.BoxFace.{BoxFace}
 use Rattle.fa_core.specs.declared.faces.Face.{Face}
-use Rattle.fa_core.specs.Boxes.{IsPortSpot, IsPortFilled, InsideFilled, port_structs, port_fields, Begins, InsideFits}
-use Rattle.fa_core.specs.Boxes.{CoverAlike, CoverSome, PortsCover, OutFits, PortsFit, IsReached, LeadsUp, LeadsNowhere}
+use Rattle.fa_core.specs.Boxes.{IsPortSpot, IsPortFilled, InsideFilled, port_structs, port_fields, Begins}
+use Rattle.fa_core.specs.Boxes.{CoverAlike, CoverSome, PortsCover, OutFits, PortsFit, LeadsUp, LeadsNowhere}
 use Rattle.fa_core.specs.Boxes.{BackHolds, SoundBox}
 use Rattle.fa_core.specs.Cells.{is_leaf}
 use Rattle.fa_core.specs.Filled.{Choice, TopsAre, IsTopped, NamesStruct, FieldEnds, EndFits, EndsFit, IsFilledSpot}
 use Rattle.fa_core.specs.Filled.{Spot}
-use Rattle.fa_core.specs.Filled.{spots, spots_at, given_at, covers, HasField, HasSome}
-use Rattle.fa_core.specs.Folding.{covered_fields, symbol_slots}
-use Rattle.fa_core.specs.Rearranged.{Rearranged, chain, empty, RisesFrom, IsRising}
+use Rattle.fa_core.specs.Filled.{spots, given_at, HasSome}
+use Rattle.fa_core.specs.Folding.{covered_fields}
+use Rattle.fa_core.specs.Rearranged.{Rearranged, chain, RisesFrom, IsRising}
 use Rattle.fa_core.proofs.FilledKept.{choice_with}
+use Rattle.fa_core.proofs.NodeSpots.{spots_out}
 use Rattle.fa_core.proofs.Permuted.{distinct_moved, in_rearranged}
-use Rattle.fa_core.proofs.Rearranging.{back, same}
+use Rattle.fa_core.proofs.Rearranging.{back}
 use Rattle.fa_box_rules.specs.Cells.{MayName, FieldMayEnd, EndMayFit, EndsMayFit, IsRightCell, IsRightPort}
 use Rattle.fa_box_rules.specs.Cells.{IsRightUnder}
 use Rattle.fa_box_rules.specs.Cells.{AreRight}
-use Rattle.fa_box_rules.specs.Rules.{Inside, port_count, structs_of, covered_at, root_fields, Breaks4, Breaks5}
+use Rattle.fa_box_rules.specs.Rules.{port_count, structs_of, root_fields, Breaks4, Breaks5}
 use Rattle.fa_box_rules.specs.Rules.{takes_leaf, other_struct, covers_apart, covers_none, signs_apart, gives_apart}
 use Rattle.fa_box_rules.specs.Rules.{leads_apart, Breaks6, Breaks7, Breaks, Gives, GivesOutput, IsFaceOf, inside_of}
 use Rattle.fa_box_rules.specs.Rules.{MayEndNowhere}
@@ -156,17 +156,6 @@ rising_differ (x ∷ xs) h = (above_out x x xs (omega arith) h, from x xs h)
     from m (y ∷ ys) k = (above_out y y ys (omega arith) k.1, from y ys k.1)
 
 -- The fields of ports.
-
-module _ (bs : List BoxFace) where
-  abbrev pub with_spots : List Tree → List (Tree × (List ℕ → List Spot))
-  with_spots ts = map (λ t. (t, spots bs t)) ts
-
-  pub spots_out : (t : Tree) (above : List ℕ) → spots bs t above
-      ≡ spots_at bs (out-Tree t).symbol (with_spots (out-Tree t).children) above
-  spots_out t above =
-      ap (λ (u : Tree). spots bs u above) (sym (roll-out-Tree t))
-      ∙ ap (λ (f : List ℕ → List Spot). f above)
-      (para-roll-Tree (List ℕ → List Spot) (λ x. spots_at bs x.symbol x.children) (out-Tree t))
 
 module _ (face : Face) (tops : List ℕ) where
   -- the fields of a port are those that its own slots cover and those that are given there

@@ -1,5 +1,5 @@
 -- The cells of the inside of a box, as they are looked at before the box has a face.
-use Rattle.std.specs.Prelude.{◌≡◌, ◌⊎◌, ℕ, zero, suc, List, [], ◌∷◌, ◌++◌, flat_map, Option, Some, None, slice_get}
+use Rattle.std.specs.Prelude.{◌≡◌, ◌⊎◌, ℕ, zero, suc, List, [], ◌∷◌, ◌++◌, flat_map, Some, slice_get}
 use Rattle.fore_base.specs.Lists.{Every, IsDistinct}
 use Rattle.ta_core.specs.declared.symbol.Slot.{Slot}
 use Rattle.ta_core.specs.declared.symbol.Slot.TheVariants.{Field, Link, Hook}

@@ -24,13 +24,14 @@ use Rattle.fa_core.specs.Folding.{covered_fields, symbol_slots}
 use Rattle.fa_core.specs.Rearranged.{Rearranged, empty, keep, chain, in_order, insert, RisesFrom, IsRising}
 use Rattle.fa_core.specs.Ways.{signature}
 use Rattle.fa_core.proofs.Permuted.{cancel_all, distinct_moved, in_rearranged}
+use Rattle.fa_core.proofs.NodeSpots.{spots_out, with_spots}
 use Rattle.fa_core.proofs.Rearranging.{equal, back, after, both, middle, exchange}
 use Rattle.fa_core.proofs.Sorting.{ordered}
 use Rattle.fa_filling.proofs.Fillings.{choice_long}
 use Rattle.fa_box_rules.specs.Cells.{IsRightUnder, AreRight}
 use Rattle.fa_box_rules.specs.Rules.{covered_at, root_fields, Gives}
 use Rattle.fa_box_rules.specs.Signs.{AreSignsOf}
-use Rattle.fa_box_rules.proofs.SoundBoxes.{some_choice, spots_out, with_spots}
+use Rattle.fa_box_rules.proofs.SoundBoxes.{some_choice}
 use Rattle.fa_sound.proofs.Given.{given_tree}
 use Rattle.fa_sound.specs.inner.Owned.{fields_of_mark}
 use Rattle.fa_boxes.specs.Ports.{GivesApart}

@@ -18,12 +18,11 @@ use Rattle.fa_core.proofs.CellMarks.{tree_signature}
 use Rattle.fa_core.proofs.Dressing.{cell_top, leaf_top}
 use Rattle.fa_core.proofs.GivenTips.{given_tips}
 use Rattle.fa_core.proofs.NodeRuns.{node_bare, end_bare}
-use Rattle.fa_core.proofs.Rearranging.{back}
+use Rattle.fa_core.proofs.Rearranging.{back, long_same}
 use Rattle.fa_core.proofs.RowsBack.{dll}
 use Rattle.fa_core.proofs.RowsBoxes.{port, port_node, port_runs, dll_box, dll_sound}
 use Rattle.fa_core.proofs.RowsCanonical.{rule, dll_face}
 use Rattle.fa_core.proofs.RowsForests.{bare_cell, bare_node, bare_runs}
-use Rattle.fa_filling.proofs.Counting.{long_same}
 use Rattle.fore_base.proofs.ListLemmas.{every_in}
 use Rattle.fa_box_rules.specs.Rules.{HaveSignatures, IsFaceOf, inside_of}
 use Rattle.fa_box_rules.proofs.SoundBoxes.{face_is}

@@ -45,7 +45,7 @@ mark_here : (bs : List BoxFace) (t : Tree) (r : ℕ) → mark_of r (signature bs
 mark_here bs t r = found bs (ways t) r (roots_met (ways t))
     ∙ ap (λ (b : Bool). cond b (Some (mark bs (ways t) r)) None) (has_once r (way_roots (ways t)))
 
-none_there : (r : ℕ) (ws : List Way) → has r (way_roots ws) ≡ false → to_root r ws ≡ []
+pub none_there : (r : ℕ) (ws : List Way) → has r (way_roots ws) ≡ false → to_root r ws ≡ []
 none_there r [] h = refl
 none_there r (w ∷ ws) h = here (nat_eq r w.root) h (none_there r ws)
   where
@@ -54,7 +54,7 @@ none_there r (w ∷ ws) h = here (nat_eq r w.root) h (none_there r ws)
     here true h f = absurd (true≢false h)
     here false h f = f h
 
-some_there : (r : ℕ) (ws : List Way) → has r (way_roots ws) ≡ true → 1 ≤ length (to_root r ws)
+pub some_there : (r : ℕ) (ws : List Way) → has r (way_roots ws) ≡ true → 1 ≤ length (to_root r ws)
 some_there r [] h = absurd (true≢false (sym h))
 some_there r (w ∷ ws) h = here (nat_eq r w.root) h (some_there r ws)
   where

@@ -22,6 +22,16 @@ often_same k (keep x r) = ap (λ (z : ℕ). cond (nat_eq k x) (z + 1) z) (often_
 often_same k (swap x y xs) = two_swapped (often k xs) (nat_eq k x) (nat_eq k y)
 often_same k (chain a b) = often_same k a ∙ often_same k b
 
+pub often_here : (k : ℕ) (xs : List ℕ) → often k (k ∷ xs) ≡ often k xs + 1
+often_here k xs = let e = eq-eqb k k refl in rw e refl
+
+pub often_more : (k x : ℕ) (xs : List ℕ) → often k xs ≤ often k (x ∷ xs)
+often_more k x xs = here (nat_eq k x)
+  where
+    here : (b : Bool) → often k xs ≤ cond b (often k xs + 1) (often k xs)
+    here true = omega arith
+    here false = omega arith
+
 pub often_both : (k : ℕ) (xs ys : List ℕ) → often k (xs ++ ys) ≡ often k xs + often k ys
 often_both k [] ys = omega arith
 often_both k (x ∷ xs) ys = here (nat_eq k x) (often_both k xs ys)

@@ -20,14 +20,14 @@ use Rattle.fa_core.specs.declared.forest.Forest.{Forest}
 use Rattle.fa_core.specs.Choices.{bares, count, numbers, numbers_of, end_numbers, all_numbers, HasInside, SlotHasInside}
 use Rattle.fa_core.specs.Choices.{SymbolHasInsides, HasInsides}
 use Rattle.fa_core.specs.Dressed.{Node, Parts, End, Nodes, node, no_parts, field, link, hook, under, leaf, no_nodes}
-use Rattle.fa_core.specs.Dressed.{more, SeenCell, tree_cells, below, end_cells, forest_cells, cells, roots_of, refs}
+use Rattle.fa_core.specs.Dressed.{more, tree_cells, below, end_cells, forest_cells, cells, roots_of, refs}
 use Rattle.fa_core.specs.Dressed.{all_refs}
 use Rattle.fa_core.specs.Filled.{Choice, TopsAre, IsTopped, IsRoot, ChoiceFilled, TreesFilled, HasOutput, HasNoOutput}
 use Rattle.fa_core.specs.Filled.{face_of, SlotFits, SymbolFits, RulesFit, IsFilled, IsFilledSpot, spots, given_at}
 use Rattle.fa_core.specs.Filled.{HasSome}
 use Rattle.fa_core.specs.Formed.{IsFormed, IsFormedChoice}
 use Rattle.fa_core.specs.Member.{inside_of, TreesOf, Regroups, bare}
-use Rattle.fa_core.specs.Rearranged.{Rearranged, empty, keep, swap, chain}
+use Rattle.fa_core.specs.Rearranged.{Rearranged, empty, keep, chain}
 use Rattle.fa_core.specs.References.{AllBelow, tree_refs}
 use Rattle.fa_core.specs.Ways.{gives_out_of}
 use Rattle.fa_core.proofs.Counts.{below_both}
@@ -36,7 +36,7 @@ use Rattle.fa_core.proofs.FilledCells.{IsApart, cells_filled, trees_filled}
 use Rattle.fa_core.proofs.Given.{inner_of, end_inner, all_inner, inner_number, root_numbers}
 use Rattle.fa_core.proofs.NodeSpots.{tree_below}
 use Rattle.fa_core.proofs.Permuted.{distinct_moved, distinct_parts, none_in_both}
-use Rattle.fa_core.proofs.Rearranging.{back, after, exchange}
+use Rattle.fa_core.proofs.Rearranging.{back, after, exchange, every_moved, mapped}
 use Rattle.fa_core.proofs.SeenCells.{IsFilledCell, filled_moved, cell_number, node_structs, tops_structs, structs_tops}
 use Rattle.fa_core.proofs.WaysOf.{map-append, tree_roots}
 
@@ -103,18 +103,6 @@ apart_by bs d a =
           subst (λ (z : List ℕ). IsDistinct z) (sym (forest_numbers (roots_of d) d)) a;
     }
 
-cells_moved : {xs ys : List SeenCell} → Rearranged xs ys → Rearranged (map cell_number xs) (map cell_number ys)
-cells_moved empty = empty
-cells_moved (keep x r) = keep (cell_number x) (cells_moved r)
-cells_moved (swap x y xs) = swap (cell_number x) (cell_number y) (map cell_number xs)
-cells_moved (chain a b) = chain (cells_moved a) (cells_moved b)
-
-every_moved : (P : SeenCell → Type 0) {xs ys : List SeenCell} → Rearranged xs ys → Every P xs → Every P ys
-every_moved P empty h = h
-every_moved P (keep x r) h = (h.0, every_moved P r h.1)
-every_moved P (swap x y xs) h = (h.1.0, (h.0, h.1.1))
-every_moved P (chain a b) h = every_moved P b (every_moved P a h)
-
 -- the references of a dressed forest by those of its trees
 refs_below : (m : ℕ) (d : Nodes) → Every (λ t. AllBelow m (tree_refs t)) (bares d) → AllBelow m (all_refs d)
 refs_below m no_nodes h = tt
@@ -143,7 +131,7 @@ choice_kept T face F G ranked insides regroups filled ts c h =
         subst (λ (z : List ℕ). IsDistinct z) (sym (forest_numbers (roots_of e) e)) a in
         let ak : IsDistinct (all_numbers k.0) =
         subst (λ (z : List ℕ). IsDistinct z) (forest_numbers (roots_of k.0) k.0)
-        (distinct_moved (cells_moved k.1.same_cells) ae) in
+        (distinct_moved (mapped cell_number k.1.same_cells) ae) in
         let y : Every (IsFilledCell face (cells k.0)) (cells k.0) =
         cells_filled face k.0 (apart_by face.boxes k.0 ak) x in
         let z : Every (IsFilledCell face (cells e)) (cells e) =

@@ -31,7 +31,9 @@ pub mod RowsFolds
 pub mod RowsForests
 pub mod RowsForms
 pub mod RowsHooks
+pub mod RowsPorts
 pub mod RowsTables
+pub mod SameCounts
 pub mod SameKeys
 pub mod SameTrees
 pub mod SeenCells

@@ -7,7 +7,7 @@ use Rattle.fore_base.proofs.ListLemmas.{every_parts}
 use Rattle.ta_core.specs.declared.symbol.Symbol.{Symbol}
 use Rattle.ta_core.specs.declared.symbol.Symbol.TheVariants.{Null as NullSymbol, Uninit as UninitSymbol}
 use Rattle.ta_core.specs.declared.symbol.Symbol.TheVariants.{Dangling as DanglingSymbol, Ref, Cell as CellSymbol}
-use Rattle.ta_core.specs.declared.tree.Tree.{Tree, Tree-F, roll-Tree, out-Tree, para-roll-Tree}
+use Rattle.ta_core.specs.declared.tree.Tree.{Tree, Tree-F, roll-Tree, out-Tree, roll-out-Tree, para-roll-Tree}
 use Rattle.fa_core.specs.declared.faces.BoxFace.{BoxFace}
 use Rattle.fa_core.specs.declared.faces.Face.{Face}
 use Rattle.fa_core.specs.declared.forest.Target.{Target}
@@ -44,16 +44,20 @@ module _ (bs : List BoxFace) where
     end_spots g (under n) = node_spots n g
     end_spots g (leaf t) = []
 
-  abbrev with_spots : Tree → Tree × (List ℕ → List Spot)
-  with_spots t = (t, spots bs t)
+  abbrev pub with_spots : List Tree → List (Tree × (List ℕ → List Spot))
+  with_spots ts = map (λ t. (t, spots bs t)) ts
 
   rolled_spots : (x : Tree-F Tree) (above : List ℕ) → spots bs (roll-Tree x) above
-      ≡ spots_at bs x.symbol (map with_spots x.children) above
+      ≡ spots_at bs x.symbol (with_spots x.children) above
   rolled_spots x above = ap (λ (g : List ℕ → List Spot). g above)
       (para-roll-Tree (List ℕ → List Spot) (λ t. spots_at bs t.symbol t.children) x)
 
+  pub spots_out : (t : Tree) (above : List ℕ) → spots bs t above
+      ≡ spots_at bs (out-Tree t).symbol (with_spots (out-Tree t).children) above
+  spots_out t above = ap (λ (u : Tree). spots bs u above) (sym (roll-out-Tree t)) ∙ rolled_spots (out-Tree t) above
+
   symbols_are : (ps : Parts)
-      → map (λ (c : Tree × (List ℕ → List Spot)). (out-Tree c.0).symbol) (map with_spots (bare_parts ps))
+      → map (λ (c : Tree × (List ℕ → List Spot)). (out-Tree c.0).symbol) (with_spots (bare_parts ps))
       ≡ end_symbols ps
   symbols_are no_parts = refl
   symbols_are (field f e ps) = ap (λ (z : List Symbol). (out-Tree (bare_end e)).symbol ∷ z) (symbols_are ps)
@@ -69,7 +73,7 @@ module _ (bs : List BoxFace) where
         ∷ y) (symbols_are ps) (spots_below ps)
 
     spots_below : (ps : Parts)
-        → child_spots bs (slots_of ps) (map (λ (c : Tree × (List ℕ → List Spot)). c.1) (map with_spots (bare_parts ps)))
+        → child_spots bs (slots_of ps) (map (λ (c : Tree × (List ℕ → List Spot)). c.1) (with_spots (bare_parts ps)))
         ≡ parts_spots ps
     spots_below no_parts = refl
     spots_below (field f e ps) = ap₂ (λ (x y : List Spot). x ++ y) (spots_end [] e) (spots_below ps)

@@ -1,5 +1,7 @@
 -- Laws of rearranged lists.
-use Rattle.std.proofs.Common.{◌≡◌, List, [], ◌∷◌, ◌++◌, refl, sym, subst, append_assoc, flat_map}
+use Rattle.std.proofs.Common.{◌≡◌, suc, List, [], ◌∷◌, ◌++◌, length, map, refl, sym, ap, subst, ◌∙◌, append_assoc}
+use Rattle.std.proofs.Common.{flat_map}
+use Rattle.fore_base.specs.Lists.{Every}
 use Rattle.fa_core.specs.Rearranged.{Rearranged, empty, keep, swap, chain}
 
 module _ {X : Type 0} where
@@ -36,6 +38,25 @@ module _ {X : Type 0} where
   pub exchange : (xs ys zs : List X) → Rearranged (xs ++ (ys ++ zs)) (ys ++ (xs ++ zs))
   exchange xs [] zs = same (xs ++ zs)
   exchange xs (y ∷ ys) zs = chain (middle xs y (ys ++ zs)) (keep y (exchange xs ys zs))
+
+  pub long_same : {xs ys : List X} → Rearranged xs ys → length xs ≡ length ys
+  long_same empty = refl
+  long_same (keep x r) = ap suc (long_same r)
+  long_same (swap x y xs) = refl
+  long_same (chain a b) = long_same a ∙ long_same b
+
+  pub every_moved : (P : X → Type 0) {xs ys : List X} → Rearranged xs ys → Every P xs → Every P ys
+  every_moved P empty h = h
+  every_moved P (keep x r) h = (h.0, every_moved P r h.1)
+  every_moved P (swap x y xs) h = (h.1.0, (h.0, h.1.1))
+  every_moved P (chain a b) h = every_moved P b (every_moved P a h)
+
+module _ {X Y : Type 0} (f : X → Y) where
+  pub mapped : {xs ys : List X} → Rearranged xs ys → Rearranged (map f xs) (map f ys)
+  mapped empty = empty
+  mapped (keep x r) = keep (f x) (mapped r)
+  mapped (swap x y xs) = swap (f x) (f y) (map f xs)
+  mapped (chain a b) = chain (mapped a) (mapped b)
 
 module _ {X Y : Type 0} (f : X → List Y) where
   pub flat_map-append : (xs ys : List X) → flat_map f (xs ++ ys) ≡ flat_map f xs ++ flat_map f ys

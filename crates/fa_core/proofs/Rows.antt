@@ -1,6 +1,6 @@
 -- Worked values of the definitions: orders, facts, members, signatures, filled cells, kinds of roots, walks, parts.
 use Rattle.std.proofs.Common.{◌≡◌, inl, inr, ℕ, zero, suc, Bool, true, false, true≢false, List, [], ◌∷◌, map, refl, sym}
-use Rattle.std.proofs.Common.{ap, ◌∙◌, length, Option, Some, None, arith}
+use Rattle.std.proofs.Common.{ap, length, Option, Some, None, arith}
 use Rattle.std.proofs.lemmas.Option.{none-some}
 use Rattle.fore_base.specs.declared.shape.FieldDef.{FieldDef}
 use Rattle.fore_base.specs.declared.shape.FieldKind.TheVariants.{Pointer, Datum as DatumField}
@@ -25,8 +25,9 @@ use Rattle.fa_core.specs.Dressed.{facts, cells, all_refs}
 use Rattle.fa_core.specs.Filled.{Spot, IsFilledSpot, SymbolFits, fields_of}
 use Rattle.fa_core.specs.Folding.{position, number_without, taken_at, Placing, all_placed, is_placed, place_now}
 use Rattle.fa_core.specs.Member.{HasItsFields, cell_facts}
-use Rattle.fa_core.specs.Rearranged.{Rearranged, keep, swap, empty, chain, in_order, often, IsRising}
+use Rattle.fa_core.specs.Rearranged.{Rearranged, keep, swap, empty, in_order, often, IsRising}
 use Rattle.fa_core.specs.Ways.{Way, ways, ways_at, once, signature}
+use Rattle.fa_core.proofs.Rearranging.{long_same}
 
 -- Orders.
 
@@ -170,17 +171,11 @@ filled_hook =
       once = keep 0 (keep 1 empty);
     }
 
-rearranged_long : {xs ys : List ℕ} → Rearranged xs ys → length xs ≡ length ys
-rearranged_long empty = refl
-rearranged_long (keep x r) = ap suc (rearranged_long r)
-rearranged_long (swap x y xs) = refl
-rearranged_long (chain p q) = rearranged_long p ∙ rearranged_long q
-
 given_twice : IsFilledSpot face tops (spot 0 (Field 0 ∷ Field 1 ∷ []) (Ref 0 ∷ Null ∷ []) (1 ∷ [])) → ⊥
-given_twice h = let e = rearranged_long h.once in omega (arith, e)
+given_twice h = let e = long_same h.once in omega (arith, e)
 
 never_given : IsFilledSpot face tops (spot 0 (Field 0 ∷ []) (Ref 0 ∷ []) []) → ⊥
-never_given h = let e = rearranged_long h.once in omega (arith, e)
+never_given h = let e = long_same h.once in omega (arith, e)
 
 out_of_order : IsFilledSpot face tops (spot 0 (Field 1 ∷ Field 0 ∷ []) (Null ∷ Null ∷ []) []) → ⊥
 out_of_order h = let l = h.order.1.0 in omega (arith, l)

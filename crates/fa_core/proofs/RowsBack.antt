@@ -26,13 +26,13 @@ use Rattle.fa_core.specs.Ways.{Way, Step, ways, ways_at, leads_back, led_to, giv
 abbrev pub dll : List BoxFace
 dll = record { input = 0; output = Some 0; gives_in = 0 ∷ []; gives_out = 1 ∷ []; back = true } ∷ []
 
-abbrev ref : ℕ → Tree
+abbrev pub ref : ℕ → Tree
 ref r = roll-Tree (record { symbol = Ref r; children = [] })
 
 abbrev pub null : Tree
 null = roll-Tree (record { symbol = Null; children = [] })
 
-abbrev cell : List Slot → List Tree → Tree
+abbrev pub cell : List Slot → List Tree → Tree
 cell ss ts = roll-Tree (record { symbol = Cell 0 [] ss; children = ts })
 
 pub opened : (x : Tree-F Tree) → ways (roll-Tree x) ≡ ways_at x.symbol (map ways x.children)
@@ -185,7 +185,7 @@ number_of NullValue = 0
 number_of UninitValue = 0
 number_of DanglingValue = 0
 
-abbrev fact_value : Fact → Value
+abbrev pub fact_value : Fact → Value
 fact_value (Head c s ds) = NullValue
 fact_value (Points c f v) = v
 

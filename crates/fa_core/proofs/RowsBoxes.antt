@@ -34,6 +34,7 @@ use Rattle.fa_core.proofs.NodeRuns.{EndRun, node_bare}
 use Rattle.fa_core.proofs.NodeSpots.{spots_are, one_leaf}
 use Rattle.fa_core.proofs.RowsBack.{dll_inside, dll_down, dll_up}
 use Rattle.fa_core.proofs.RowsCanonical.{rule, dll_face}
+use Rattle.fa_core.proofs.SameTrees.{first_tree}
 use Rattle.fa_core.proofs.SeenCells.{structs_tops}
 use Rattle.fa_core.proofs.SingleTrees.{IsSingle, same_tree, single_tree, single_choice}
 use Rattle.fa_core.proofs.WaysOf.{tree_roots}
@@ -119,10 +120,6 @@ slot_field (Hook b) = 0
 abbrev first_slot : List Slot → Slot
 first_slot [] = Hook 0
 first_slot (s ∷ ss) = s
-
-abbrev first_tree : Tree → List Tree → Tree
-first_tree d [] = d
-first_tree d (t ∷ ts) = t
 
 abbrev pub slot_count : List Slot → ℕ
 slot_count [] = 0

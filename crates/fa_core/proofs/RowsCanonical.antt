@@ -368,22 +368,10 @@ other_worked = record {
   single = (list_single.0, (((refl, (refl, (refl, (refl, (refl, (refl, tt)))))), (0, refl)), tt));
   choice = (tail_runs, (other_runs, tt));
   differ = list_worked.differ;
-  refers = (omega arith, (omega arith, tt));
-  vars = ((λ r e. (let z = ap target_root e in omega (arith, z))), tt);
+  refers = list_worked.refers;
+  vars = list_worked.vars;
   data_vars = tt;
-  rules = (
-    ((omega arith, refl, tt, (refl, (refl, tt))), (tt, tt)),
-    (
-      (
-        (omega arith, refl, tt, (refl, (refl, (refl, tt)))),
-        (
-          (omega arith, refl, tt, (refl, (refl, (refl, tt)))),
-          ((omega arith, refl, tt, (refl, (refl, (refl, tt)))), (tt, (tt, (tt, tt)))),
-        ),
-      ),
-      tt,
-    ),
-  );
+  rules = list_worked.rules;
   cells = (
     record {
       slots = ((0, refl, tt), ((0, refl, tt), tt));

@@ -1,5 +1,5 @@
 -- Worked faces of boxes.
-use Rattle.std.proofs.Common.{◌≡◌, true, false, true≢false, [], ◌∷◌, length, Some, None, refl, ap, sym, arith}
+use Rattle.std.proofs.Common.{true, false, true≢false, [], ◌∷◌, length, Some, None, refl, ap, sym, arith}
 use Rattle.fa_core.specs.declared.faces.BoxFace.{BoxFace}
 use Rattle.fa_core.specs.Faces.{IsGiving, IsSortedFace}
 

@@ -28,19 +28,13 @@ use Rattle.fa_core.specs.Ways.{ways}
 use Rattle.fa_core.proofs.Dressing.{cell_top}
 use Rattle.fa_core.proofs.NodeRuns.{EndRun, node_bare}
 use Rattle.fa_core.proofs.Rearranging.{same, back as turned}
-use Rattle.fa_core.proofs.RowsBack.{dll, null, opened}
+use Rattle.fa_core.proofs.RowsBack.{dll, null, opened, ref}
 use Rattle.fa_core.proofs.RowsBoxes.{port, port_node, port_runs, port_single, port_covers, dll_box}
 use Rattle.fa_core.proofs.RowsCanonical.{rule, three}
 use Rattle.fa_core.proofs.SameKeys.{same_by_keys}
 use Rattle.fa_core.proofs.SingleTrees.{IsSingle, single_tree, single_choice}
 
 -- Root 0 is the second cell, at which the variable is; root 1 the first.
-
-abbrev ref : ℕ → Tree
-ref r = roll-Tree (record { symbol = Ref r; children = [] })
-
-abbrev cell : List Slot → List Tree → Tree
-cell ss ts = roll-Tree (record { symbol = Cell 0 [] ss; children = ts })
 
 -- an automaton with one cell, over a null pointer at state 1 and a reference at state 2
 abbrev over : List Slot → List ℕ → ℕ → Automaton
@@ -143,7 +137,7 @@ output_tree : port_tree places_in 0 (1 ∷ []) (bare second_node) ≡ bare (port
 output_tree = let e = second_places in let m = moved_ref places_in 1 in rw (e, m) refl
 
 -- the language of single automata by their trees
-single_language : (g : Tree → Tree) (a b : Automaton) (t u : Tree) → IsSingle a → IsSingle b → InLanguage a t
+pub single_language : (g : Tree → Tree) (a b : Automaton) (t u : Tree) → IsSingle a → IsSingle b → InLanguage a t
     → InLanguage b u → g t ≡ u → IsLanguageOf g a b
 single_language g a b t u s z h k e v = (
   (λ w. (t, h, single_tree b v u z w k ∙ sym e)),

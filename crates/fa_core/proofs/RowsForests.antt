@@ -1,12 +1,10 @@
 -- Worked forests: which are well formed, which are not, and for what.
-use Rattle.std.proofs.Common.{◌≡◌, inl, inr, ℕ, suc, false, List, [], ◌∷◌, refl, sym, ap, ◌∙◌, Some, arith}
+use Rattle.std.proofs.Common.{inl, inr, ℕ, false, List, [], ◌∷◌, refl, sym, ap, ◌∙◌, Some, arith}
 use Rattle.fore_base.specs.declared.shape.FieldKind.TheVariants.{Pointer}
 use Rattle.fore_base.specs.declared.shape.Shape.{Shape}
 use Rattle.fore_base.specs.declared.store.Datum.TheVariants.{Known}
 use Rattle.ta_core.specs.Auto.{Automaton}
 use Rattle.ta_core.specs.Language.{InLanguage}
-use Rattle.ta_core.specs.declared.auto.Rule.{Rule}
-use Rattle.ta_core.specs.declared.symbol.Symbol.{Symbol}
 use Rattle.ta_core.specs.declared.symbol.Slot.TheVariants.{Field, Link}
 use Rattle.ta_core.specs.declared.symbol.Symbol.TheVariants.{Null, Ref, Cell}
 use Rattle.ta_core.specs.declared.tree.Tree.{Tree}
@@ -18,15 +16,14 @@ use Rattle.fa_core.specs.declared.forest.Target.TheVariants.{Null as NullTarget,
 use Rattle.fa_core.specs.Dressed.{Node, Nodes, node, no_parts, field, link, leaf, no_nodes, more}
 use Rattle.fa_core.specs.Filled.{TopsAre, given_at, IsFilled, IsSound}
 use Rattle.fa_core.specs.Member.{bare, bare_end}
-use Rattle.fa_core.specs.Rearranged.{Rearranged, empty, keep, swap, chain}
+use Rattle.fa_core.specs.Rearranged.{empty, keep}
 use Rattle.fa_core.proofs.Dressing.{leaf_top, cell_is_no_leaf}
 use Rattle.fa_core.proofs.GivenTips.{given_tips}
 use Rattle.fa_core.proofs.NodeRuns.{node_bare, end_bare}
 use Rattle.fa_core.proofs.NodeSpots.{spots_are}
+use Rattle.fa_core.proofs.Rearranging.{long_same}
+use Rattle.fa_core.proofs.RowsCanonical.{rule, target_root}
 use Rattle.fa_core.proofs.SingleTrees.{IsSingle, IsWorked, worked_well_formed}
-
-abbrev rule : ℕ → Symbol → List ℕ → Rule
-rule q y qs = record { state = q; symbol = y; children = qs }
 
 -- One struct, with one pointer to itself, and the box that stands for this pointer.
 
@@ -96,17 +93,6 @@ bare_node = node 0 0 [] no_parts
 pub bare_runs : InLanguage bare_cell (bare bare_node)
 bare_runs = (0, inl refl, node_bare bare_cell.rules 0 bare_node (rule 0 (Cell 0 [] []) [], inl refl, refl, refl, tt))
 
--- a list of some items is not rearranged into none
-abbrev long : List ℕ → ℕ
-long [] = 0
-long (x ∷ xs) = suc (long xs)
-
-same_long : {xs ys : List ℕ} → Rearranged xs ys → long xs ≡ long ys
-same_long empty = refl
-same_long (keep x r) = ap (λ n. suc n) (same_long r)
-same_long (swap x y zs) = refl
-same_long (chain a b) = same_long a ∙ same_long b
-
 -- the spots of that one cell have its one field given by nothing
 bare_unfilled : IsFilled list_face (only [] (bare_cell ∷ [])) → ⊥
 bare_unfilled h =
@@ -115,7 +101,7 @@ bare_unfilled h =
     let e = spots_are list_face.boxes bare_node (given_at list_face.boxes (bare bare_node ∷ []) 0) in
     let g = given_tips list_face.boxes 0 (more bare_node no_nodes) in
     let z = (rw e at s).0.once in
-    let w = same_long (rw g at z) in
+    let w = long_same (rw g at z) in
     omega (arith, w)
 
 -- A datum of 16; a leaf at the top; a target beyond the roots: each of these alone.
@@ -170,10 +156,6 @@ edge_forest = only (At 0 ∷ At 1 ∷ []) (edge_cell ∷ one_cell ∷ [])
 
 abbrev edge_nodes : Nodes
 edge_nodes = more (edge_node 0) (more (one_node 1) no_nodes)
-
-abbrev target_root : Target → ℕ
-target_root (At r) = r
-target_root t = 9
 
 edge_worked : IsWorked list_face edge_forest edge_nodes
 edge_worked = record {

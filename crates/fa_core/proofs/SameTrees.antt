@@ -59,7 +59,7 @@ abbrev other_slots : List Slot → List Slot
 other_slots [] = []
 other_slots (s ∷ ss) = ss
 
-abbrev first_tree : Tree → List Tree → Tree
+abbrev pub first_tree : Tree → List Tree → Tree
 first_tree d [] = d
 first_tree d (t ∷ ts) = t
 

@@ -1,7 +1,7 @@
 -- The faces of a table: a box that leads back gives its output something, and lists of given fields rise.
-use Rattle.std.proofs.Common.{◌≡◌, ◌≤◌, ◌<◌, ◌+◌, ℕ, Bool, true, false, true≢false, List, [], ◌∷◌, ◌++◌, length, map}
-use Rattle.std.proofs.Common.{Option, Some, None, refl, sym, ap, subst, ◌∙◌, arith, inl, inr}
-use Rattle.fore_base.specs.Lists.{IsIn, Every, IsDistinct}
+use Rattle.std.proofs.Common.{◌≡◌, ◌<◌, ◌+◌, ℕ, true≢false, List, [], ◌∷◌, ◌++◌, length, map}
+use Rattle.std.proofs.Common.{Option, Some, None, refl, sym, ap, subst, ◌∙◌, arith}
+use Rattle.fore_base.specs.Lists.{IsIn, Every}
 use Rattle.fore_base.specs.declared.shape.Shapes.{Shapes}
 use Rattle.fore_base.proofs.ListLemmas.{every_push, distinct_push}
 use Rattle.ta_core.specs.Auto.{Automaton}
@@ -11,7 +11,6 @@ use Rattle.fa_core.specs.Faces.{IsGiving, IsSortedFace}
 use Rattle.fa_core.specs.Words.{IsWord}
 use Rattle.fa_core.specs.declared.boxes.BoxDef.{BoxDef}
 use Rattle.fa_core.specs.declared.faces.BoxFace.{BoxFace}
-use Rattle.fa_core.specs.declared.faces.Face.{Face}
 
 face_gives : (T : List BoxDef) (x : BoxFace) (autos : List Automaton) (o : Option ℕ) → BackHolds T x o autos
     → IsGiving x

@@ -2,7 +2,7 @@
 
 use crate::faces::BoxFace;
 use crate::forest::Forest;
-use fore_base::list::{Copies, List};
+use fore_base::list::Copies;
 use fore_base::text::Text;
 use std::alloc::{AllocError, Global};
 

@@ -1,11 +1,11 @@
 // The signature of a tree from its symbol and what stands below it.
 
-ghost use Rattle.std.specs.Prelude.{◌≡◌, ◌↔◌, ◌++◌, ◌∷◌, [], false, filter, IsTrue, IfOk, OnOk, map};
+ghost use Rattle.std.specs.Prelude.{◌≡◌, ◌++◌, ◌∷◌, [], false, filter, IfOk, OnOk};
 ghost use Rattle.std.specs.Option.{option_copied};
 ghost use Rattle.fa_core.specs.Cells.{edges, is_leaf, mark_of, many_from, provided_in, provided_at, back_in, back_at};
 ghost use Rattle.fa_core.specs.Cells.{reach_in, reach_at, cell_mark, cell_roots, cell_marks, marks_by, leaf_mark};
 ghost use Rattle.fa_core.specs.Cells.{roots_in};
-ghost use Rattle.fa_core.specs.Ways.{is_back, back_of, gives_out_of, has, once_from};
+ghost use Rattle.fa_core.specs.Ways.{is_back, gives_out_of, has, once_from};
 
 use crate::faces::BoxFace;
 use crate::ordering::in_order;

@@ -1,5 +1,7 @@
 // Forests: a tree automaton for each root, and what the variables are.
 
+ghost use Rattle.std.specs.Prelude.{◌≡◌, ◌↔◌, IsTrue};
+
 use fore_base::list::{Copies, List};
 use fore_base::store::Datum;
 use std::alloc::{AllocError, Global};
@@ -24,6 +26,20 @@ pub struct Forest {
     pub autos: List<Auto>,
     pub vars: List<Target>,
     pub data_vars: List<Datum>,
+}
+
+/// Whether the pointer variables are at the same targets.
+pub fn are_same_targets(left: &[Target], right: &[Target]) -> bool
+    ensures { IsTrue result ↔ (left.now ≡ right.now) }
+{
+    left == right
+}
+
+/// Whether the data variables have the same values.
+pub fn are_same_data(left: &[Datum], right: &[Datum]) -> bool
+    ensures { IsTrue result ↔ (left.now ≡ right.now) }
+{
+    left == right
 }
 
 impl Copies for Target {

@@ -4,7 +4,7 @@ use Rattle.std.proofs.Common.{refl, sym, ap, ◌∙◌, Some, arith}
 use Rattle.fore_base.specs.declared.store.Datum.TheVariants.{Known}
 use Rattle.fore_base.specs.declared.store.Value.TheVariants.{Cell as CellValue}
 use Rattle.ta_core.specs.Auto.{Automaton}
-use Rattle.ta_core.specs.Language.{InLanguage, RunOf, run, run_none, TakesPart, at_top, below, this_one, later_one}
+use Rattle.ta_core.specs.Language.{InLanguage, RunOf, run_none, TakesPart, at_top, below, this_one, later_one}
 use Rattle.ta_core.specs.declared.symbol.Slot.TheVariants.{Field}
 use Rattle.ta_core.specs.declared.symbol.Symbol.TheVariants.{Null, Ref, Cell}
 use Rattle.ta_core.specs.declared.tree.Tree.{Tree, roll-Tree, out-roll-Tree}
@@ -19,19 +19,21 @@ use Rattle.fa_core.specs.Choices.{bares}
 use Rattle.fa_core.specs.Dressed.{Node, Nodes, node, no_parts, field, under, leaf, no_nodes, more}
 use Rattle.fa_core.specs.Filled.{given_at}
 use Rattle.fa_core.specs.Member.{bare, bare_end}
-use Rattle.fa_core.specs.Rearranged.{Rearranged, empty, keep, swap, chain}
 use Rattle.fa_core.specs.Ways.{signature}
 use Rattle.fa_core.proofs.Dressing.{cell_top}
 use Rattle.fa_core.proofs.GivenTips.{given_tips}
 use Rattle.fa_core.proofs.NodeRuns.{NodeRun, node_bare, end_bare}
 use Rattle.fa_core.proofs.NodeSpots.{spots_are}
 use Rattle.fa_core.proofs.ReachedEnds.{reached_ends}
+use Rattle.fa_core.proofs.Rearranging.{long_same}
 use Rattle.fa_core.proofs.RowsBack.{opened, one_inside, one_never}
 use Rattle.fa_core.proofs.RowsBoxes.{port, port_node, port_runs, box_face}
 use Rattle.fa_core.proofs.RowsCanonical.{rule, dll_face}
 use Rattle.fa_core.proofs.RowsChains.{chain_structs, chain_face}
 use Rattle.fa_core.proofs.RowsForests.{bare_cell, bare_node, bare_runs}
 use Rattle.fa_core.proofs.RowsHooks.{ring_face, item, item_node, item_runs}
+use Rattle.fa_core.proofs.RowsPorts.{two_fields, next_runs, prev_runs, null_port, null_node, null_runs, no_rules}
+use Rattle.fa_core.proofs.RowsPorts.{no_tree}
 use Rattle.fa_core.proofs.SeenCells.{tops_structs}
 use Rattle.fa_core.proofs.WaysOf.{tree_roots}
 
@@ -45,17 +47,6 @@ box_of x autos = record { name = 98 ∷ []; face = x; inside = record { autos = 
 
 -- Fields.
 
--- lists that are rearranged are as long as each other
-abbrev long : List ℕ → ℕ
-long [] = 0
-long (x ∷ xs) = suc (long xs)
-
-same_long : {xs ys : List ℕ} → Rearranged xs ys → long xs ≡ long ys
-same_long empty = refl
-same_long (keep x r) = ap (λ n. suc n) (same_long r)
-same_long (swap x y zs) = refl
-same_long (chain a b) = same_long a ∙ same_long b
-
 -- an inner root without its prev
 abbrev short_nodes : Nodes
 short_nodes = more (port_node 0 0 1) (more (port_node 1 0 0) no_nodes)
@@ -66,7 +57,7 @@ inner_root_lacks_prev T h =
     let e = spots_are [] (port_node 1 0 0) (given_at [] (bares short_nodes) 1) in
     let g = given_tips [] 1 short_nodes in
     let w = (rw e at f.cells.1.0).0.once in
-    let z = same_long (rw g at w) in
+    let z = long_same (rw g at w) in
     omega (arith, z)
 
 -- a cell below a port without its prev
@@ -109,13 +100,13 @@ low_cell_lacks_prev T h =
     let f = h.fits (bares low_nodes) (short_runs, (port_runs 2 1 1, tt)) in
     let e = spots_are [] short_node (given_at [] (bares low_nodes) 0) in
     let w = (rw e at f.cells.0).1.0.once in
-    let z = same_long w in
+    let z = long_same w in
     omega (arith, z)
 
 -- a port with a field of its own and the same by an edge
 given_twice : IsPortSpot plain (0 ∷ 0 ∷ []) (0 ∷ [])
     (record { shape = 0; slots = Field 0 ∷ []; ends = Ref 1 ∷ []; given = 0 ∷ [] }) → ⊥
-given_twice h = let z = same_long h.once in omega (arith, z)
+given_twice h = let z = long_same h.once in omega (arith, z)
 
 -- the fields of a face rise
 not_rising_in : (face : Face) (T : List BoxDef) (autos : List Automaton)
@@ -148,41 +139,6 @@ refers_beyond T h =
     omega (arith, l)
 
 -- Ports.
-
--- the input's trees cover next or prev
-abbrev two_fields : Automaton
-two_fields = record {
-  states = 2;
-  roots = 0 ∷ [];
-  rules = rule 0 (Cell 0 [] (Field 0 ∷ [])) (1 ∷ []) ∷ rule 0 (Cell 0 [] (Field 1 ∷ [])) (1 ∷ [])
-      ∷ rule 1 (Ref 1) [] ∷ [];
-}
-
-next_runs : InLanguage two_fields (bare (port_node 0 0 1))
-next_runs = (
-  0,
-  inl refl,
-  node_bare two_fields.rules 0 (port_node 0 0 1) (
-    rule 0 (Cell 0 [] (Field 0 ∷ [])) (1 ∷ []),
-    inl refl,
-    refl,
-    refl,
-    ((rule 1 (Ref 1) [], inr (inr (inl refl)), refl, refl, refl), tt),
-  ),
-)
-
-prev_runs : InLanguage two_fields (bare (port_node 0 1 1))
-prev_runs = (
-  0,
-  inl refl,
-  node_bare two_fields.rules 0 (port_node 0 1 1) (
-    rule 0 (Cell 0 [] (Field 1 ∷ [])) (1 ∷ []),
-    inr (inl refl),
-    refl,
-    refl,
-    ((rule 1 (Ref 1) [], inr (inr (inl refl)), refl, refl, refl), tt),
-  ),
-)
 
 covers_either : CoverAlike [] two_fields → ⊥
 covers_either h =
@@ -269,30 +225,6 @@ two_signatures T h =
 
 -- Reachability.
 
--- an item whose next is null
-abbrev null_port : Automaton
-null_port = record {
-  states = 2;
-  roots = 0 ∷ [];
-  rules = rule 0 (Cell 0 [] (Field 0 ∷ [])) (1 ∷ []) ∷ rule 1 Null [] ∷ [];
-}
-
-abbrev null_node : Node
-null_node = node 5 0 [] (field 0 (leaf NullTarget) no_parts)
-
-null_runs : InLanguage null_port (bare null_node)
-null_runs = (
-  0,
-  inl refl,
-  node_bare null_port.rules 0 null_node (
-    rule 0 (Cell 0 [] (Field 0 ∷ [])) (1 ∷ []),
-    inl refl,
-    refl,
-    refl,
-    ((rule 1 Null [], inr (inl refl), refl, refl, refl), tt),
-  ),
-)
-
 output_unreached : (T : List BoxDef) → IsReached T (record box_face { gives_out = [] }) (null_port ∷ bare_cell ∷ []) → ⊥
 output_unreached T h =
     let r = h (more null_node (more bare_node no_nodes)) (null_runs, (tt, tt), (bare_runs, tt, tt)) 1
@@ -321,12 +253,6 @@ does_not_lead_up T h =
 
 -- A component without a tree.
 
-abbrev no_rules : Automaton
-no_rules = record { states = 1; roots = 0 ∷ []; rules = [] }
-
-no_tree : (q : ℕ) (t : Tree) → RunOf [] q t → ⊥
-no_tree q t (run r i e s k) = i
-
 empty_component : (face : Face) (T : List BoxDef) (x : BoxFace) → SoundBox face T (box_of x (port 0 1 ∷ no_rules ∷ []))
     → ⊥
-empty_component face T x h = let w = h.full.1.0 in no_tree w.1.0 w.0 w.1.2
+empty_component face T x h = let w = h.full.1.0 in no_tree w.0 w.1

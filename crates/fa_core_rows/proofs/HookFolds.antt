@@ -15,7 +15,6 @@ use Rattle.ta_core.specs.declared.tree.Tree.{Tree, roll-Tree, out-roll-Tree}
 use Rattle.fa_core.specs.declared.boxes.BoxDef.{BoxDef}
 use Rattle.fa_core.specs.declared.faces.BoxFace.{BoxFace}
 use Rattle.fa_core.specs.declared.forest.Forest.{Forest}
-use Rattle.fa_core.specs.declared.forest.Target.{Target}
 use Rattle.fa_core.specs.declared.forest.Target.TheVariants.{Null as NullTarget, At}
 use Rattle.fa_core.specs.Canonical.{refs_at}
 use Rattle.fa_core.specs.Dressed.{Node, node, no_parts, field, hook, leaf, no_nodes}
@@ -30,10 +29,12 @@ use Rattle.fa_core.specs.References.{tree_refs}
 use Rattle.fa_core.proofs.Dressing.{cell_top}
 use Rattle.fa_core.proofs.Rearranging.{same}
 use Rattle.fa_core.proofs.RowsBack.{opened}
+use Rattle.fa_core.proofs.RowsCanonical.{target_root}
+use Rattle.fa_core.proofs.RowsFolds.{single_language}
 use Rattle.fa_core.proofs.RowsHooks.{ring_face}
 use Rattle.fa_core.proofs.SingleTrees.{IsSingle, single_choice}
 use Rattle.fa_core_rows.proofs.Singles.{over, over_single, over_top, over_runs, to_ref, to_null, moved_rolled}
-use Rattle.fa_core_rows.proofs.Singles.{single_language, single_fields, single_folded}
+use Rattle.fa_core_rows.proofs.Singles.{single_fields, single_folded}
 
 -- Items have next and prev. Roots 0 and 2 are a ring by next, root 1 is apart; variables are at roots 1 and 2.
 
@@ -147,9 +148,12 @@ not_a_port : IsIn {X = ℕ} 0 (2 ∷ []) → ⊥
 not_a_port (inl e) = omega (arith, e)
 not_a_port (inr x) = x
 
-abbrev target_root : Target → ℕ
-target_root (At r) = r
-target_root t = 9
+-- the variables are at the ports
+pub no_var : (r : ℕ) → IsIn r (0 ∷ []) → IsIn (At r) (At 1 ∷ At 2 ∷ []) → ⊥
+no_var r (inr x) j = x
+no_var r (inl e) (inl h) = let z = ap target_root h in omega (arith, e, z)
+no_var r (inl e) (inr (inl h)) = let z = ap target_root h in omega (arith, e, z)
+no_var r (inl e) (inr (inr x)) = x
 
 part_roots : ArePartRoots (At 1 ∷ At 2 ∷ []) trees ports (0 ∷ [])
 part_roots = record { order = 2 ∷ 0 ∷ []; reached = walk; are = refl; no_var = no_var; alone = alone }
@@ -161,12 +165,6 @@ part_roots = record { order = 2 ∷ 0 ∷ []; reached = walk; are = refl; no_var
         let last : Placing (refs_at trees) (refs_at trees 0 ++ []) (2 ∷ 0 ∷ []) (2 ∷ 0 ∷ []) =
         rw f (is_placed (inl refl) all_placed) in
         rw e (place_now {r = 0} not_a_port last)
-
-    no_var : (r : ℕ) → IsIn r (0 ∷ []) → IsIn (At r) (At 1 ∷ At 2 ∷ []) → ⊥
-    no_var r (inr x) j = x
-    no_var r (inl e) (inl h) = let z = ap target_root h in omega (arith, e, z)
-    no_var r (inl e) (inr (inl h)) = let z = ap target_root h in omega (arith, e, z)
-    no_var r (inl e) (inr (inr x)) = x
 
     alone : (r k : ℕ) → IsIn k (0 ∷ []) → (IsIn r (0 ∷ []) → ⊥) → r < 3 → IsIn k (left_refs trees ports r) → ⊥
     alone zero k i o l j = o (inl refl)

@@ -4,7 +4,7 @@ use Rattle.std.proofs.Common.{◌≡◌, ◌<◌, inl, inr, ℕ, zero, suc, List
 use Rattle.std.proofs.Common.{◌∙◌, arith}
 use Rattle.fore_base.specs.Lists.{IsIn}
 use Rattle.ta_core.specs.declared.symbol.Slot.TheVariants.{Field}
-use Rattle.ta_core.specs.declared.tree.Tree.{Tree, roll-Tree, out-roll-Tree}
+use Rattle.ta_core.specs.declared.tree.Tree.{Tree, out-roll-Tree}
 use Rattle.fa_core.specs.Canonical.{refs_at}
 use Rattle.fa_core.specs.Dressed.{Node, node, no_parts, field, leaf}
 use Rattle.fa_core.specs.Folding.{top_places, Placing, all_placed, is_placed, place_now, position, Ports, port_refs}
@@ -13,6 +13,7 @@ use Rattle.fa_core.specs.Member.{bare, bare_end}
 use Rattle.fa_core.specs.declared.forest.Target.{Target}
 use Rattle.fa_core.specs.declared.forest.Target.TheVariants.{Null as NullTarget, At}
 use Rattle.fa_core.proofs.RowsBack.{opened}
+use Rattle.fa_core.proofs.RowsCanonical.{target_root}
 use Rattle.fa_core_rows.proofs.HookFolds.{item, both, ref_refs, null_refs}
 
 -- An item with these at next and prev.
@@ -100,10 +101,6 @@ walk =
 
 abbrev vars : List Target
 vars = At 2 ∷ At 4 ∷ []
-
-abbrev target_root : Target → ℕ
-target_root (At r) = r
-target_root t = 9
 
 roots : ArePartRoots vars trees ports inner
 roots = record { order = order; reached = walk; are = refl; no_var = no_var; alone = alone }

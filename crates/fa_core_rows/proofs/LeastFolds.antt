@@ -24,12 +24,13 @@ use Rattle.fa_core.specs.declared.forest.Forest.{Forest}
 use Rattle.fa_core.specs.declared.forest.Target.TheVariants.{Null as NullTarget, At}
 use Rattle.fa_core.proofs.Dressing.{cell_top}
 use Rattle.fa_core.proofs.Rearranging.{same}
+use Rattle.fa_core.proofs.RowsFolds.{single_language}
 use Rattle.fa_core.proofs.RowsHooks.{ring_face}
 use Rattle.fa_core.proofs.SingleTrees.{single_choice}
 use Rattle.fa_core_rows.proofs.HookFolds.{item, both, bs, next_auto, next_node, next_runs, next_places}
 use Rattle.fa_core_rows.proofs.HookFolds.{ref_refs, null_place, hooked, hook_node, hook_runs, back_port, back_node}
 use Rattle.fa_core_rows.proofs.HookFolds.{back_runs}
-use Rattle.fa_core_rows.proofs.Singles.{over_single, over_top, moved_rolled, single_language, single_fields}
+use Rattle.fa_core_rows.proofs.Singles.{over_single, over_top, moved_rolled, single_fields}
 use Rattle.fa_core_rows.proofs.Singles.{single_folded, top_is}
 
 -- Folds by box, then input, then output; a fold without output comes first.

@@ -12,11 +12,10 @@ use Rattle.ta_core.specs.declared.symbol.Slot.{Slot}
 use Rattle.ta_core.specs.declared.symbol.Slot.TheVariants.{Field, Link}
 use Rattle.ta_core.specs.declared.symbol.Symbol.{Symbol}
 use Rattle.ta_core.specs.declared.symbol.Symbol.TheVariants.{Null, Uninit, Ref, Cell}
-use Rattle.ta_core.specs.declared.tree.Tree.{Tree, roll-Tree, out-roll-Tree}
+use Rattle.ta_core.specs.declared.tree.Tree.{Tree, out-roll-Tree}
 use Rattle.fa_core.specs.declared.boxes.BoxDef.{BoxDef}
 use Rattle.fa_core.specs.declared.faces.BoxFace.{BoxFace}
 use Rattle.fa_core.specs.declared.forest.Forest.{Forest}
-use Rattle.fa_core.specs.declared.forest.Target.{Target}
 use Rattle.fa_core.specs.declared.forest.Target.TheVariants.{Null as NullTarget, At}
 use Rattle.fa_core.specs.Canonical.{refs_at}
 use Rattle.fa_core.specs.Dressed.{Node, node, no_parts, field, link, leaf, no_nodes}
@@ -27,15 +26,16 @@ use Rattle.fa_core.specs.Folding.{left_refs, ArePartRoots, port_tree, moved_tree
 use Rattle.fa_core.specs.Folding.{gained}
 use Rattle.fa_core.specs.Folding.{taken_at, IsFoldedAuto, FoldOf}
 use Rattle.fa_core.specs.Member.{bare}
-use Rattle.fa_core.specs.References.{tree_refs}
 use Rattle.fa_core.proofs.Dressing.{cell_top}
 use Rattle.fa_core.proofs.NodeRuns.{node_bare}
 use Rattle.fa_core.proofs.Rearranging.{same}
 use Rattle.fa_core.proofs.RowsBack.{opened}
 use Rattle.fa_core.proofs.RowsCanonical.{rule}
+use Rattle.fa_core.proofs.RowsFolds.{single_language}
 use Rattle.fa_core.proofs.SingleTrees.{IsSingle, single_tree, single_choice}
+use Rattle.fa_core_rows.proofs.HookFolds.{no_var, leaf_tree, ref_refs, null_refs}
 use Rattle.fa_core_rows.proofs.Singles.{over, over_single, over_top, over_runs, to_ref, to_null, moved_rolled}
-use Rattle.fa_core_rows.proofs.Singles.{single_language, single_fields, single_folded}
+use Rattle.fa_core_rows.proofs.Singles.{single_fields, single_folded}
 
 -- Items have next and prev, heads a datum and first. Root 0 is an item between the item of root 1, which is its next
 -- and whose prev it is, and the head of root 2, whose first it is. Variables are at roots 1 and 2.
@@ -156,9 +156,6 @@ ports = (2, 0 ∷ []) ∷ (1, 1 ∷ []) ∷ []
 abbrev places : ℕ → ℕ
 places = position (2 ∷ 1 ∷ 0 ∷ [])
 
-abbrev leaf_tree : Symbol → Tree
-leaf_tree y = roll-Tree (record { symbol = y; children = [] })
-
 inner_places : top_places (bare inner_node) ≡ (Field 0, leaf_tree (Ref 1) ∷ []) ∷ (Field 1, leaf_tree Null ∷ []) ∷ []
 inner_places =
     let e = out-roll-Tree (record { symbol = item both; children = leaf_tree (Ref 1) ∷ leaf_tree Null ∷ [] }) in
@@ -171,12 +168,6 @@ out_places =
 
 head_places : top_places (bare head_node) ≡ (Field 0, leaf_tree (Ref 0) ∷ []) ∷ []
 head_places = let e = out-roll-Tree (record { symbol = head; children = leaf_tree (Ref 0) ∷ [] }) in rw e refl
-
-ref_refs : (r : ℕ) → tree_refs (leaf_tree (Ref r)) ≡ r ∷ []
-ref_refs r = let e = opened (record { symbol = Ref r; children = [] }) in rw e refl
-
-null_refs : tree_refs (leaf_tree Null) ≡ []
-null_refs = let e = opened (record { symbol = Null; children = [] }) in rw e refl
 
 from_ports : port_refs trees ports ≡ 0 ∷ 0 ∷ []
 from_ports = let a = head_places in let b = out_places in let c = ref_refs 0 in rw (a, b, c) refl
@@ -195,10 +186,6 @@ not_a_port (inl e) = omega (arith, e)
 not_a_port (inr (inl e)) = omega (arith, e)
 not_a_port (inr (inr x)) = x
 
-abbrev target_root : Target → ℕ
-target_root (At r) = r
-target_root t = 9
-
 part_roots : ArePartRoots (At 1 ∷ At 2 ∷ []) trees ports (0 ∷ [])
 part_roots = record {
   order = 2 ∷ 1 ∷ 0 ∷ [];
@@ -215,12 +202,6 @@ part_roots = record {
         let last : Placing (refs_at trees) (refs_at trees 0 ++ 0 ∷ []) (2 ∷ 1 ∷ 0 ∷ []) (2 ∷ 1 ∷ 0 ∷ []) =
         rw f (is_placed (inr (inl refl)) (is_placed (inr (inr (inl refl))) all_placed)) in
         rw e (place_now {r = 0} not_a_port last)
-
-    no_var : (r : ℕ) → IsIn r (0 ∷ []) → IsIn (At r) (At 1 ∷ At 2 ∷ []) → ⊥
-    no_var r (inr x) j = x
-    no_var r (inl e) (inl h) = let z = ap target_root h in omega (arith, e, z)
-    no_var r (inl e) (inr (inl h)) = let z = ap target_root h in omega (arith, e, z)
-    no_var r (inl e) (inr (inr x)) = x
 
     alone : (r k : ℕ) → IsIn k (0 ∷ []) → (IsIn r (0 ∷ []) → ⊥) → r < 3 → IsIn k (left_refs trees ports r) → ⊥
     alone zero k i o l j = o (inl refl)

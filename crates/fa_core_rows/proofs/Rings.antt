@@ -1,23 +1,16 @@
 -- Which cells are roots: two references, knots, and cells in fields of a shared root that refer to it.
-use Rattle.std.proofs.Common.{◌≡◌, ◌≢◌, inl, inr, ℕ, zero, suc, List, [], ◌∷◌, refl, sym, ap, subst, ◌∙◌, Some}
+use Rattle.std.proofs.Common.{◌≡◌, ◌≢◌, inl, inr, ℕ, zero, suc, [], ◌∷◌, refl, sym, ap, subst, ◌∙◌, Some}
 use Rattle.std.proofs.Common.{slice_get, arith}
 use Rattle.std.proofs.lemmas.Option.{none-some, same_Some}
 use Rattle.fore_base.specs.Lists.{IsIn}
-use Rattle.ta_core.specs.declared.symbol.Slot.{Slot}
 use Rattle.ta_core.specs.declared.symbol.Slot.TheVariants.{Field, Link}
 use Rattle.ta_core.specs.declared.symbol.Symbol.{Symbol}
 use Rattle.ta_core.specs.declared.symbol.Symbol.TheVariants.{Ref, Cell}
-use Rattle.ta_core.specs.declared.tree.Tree.{Tree, roll-Tree, out-Tree, out-roll-Tree}
+use Rattle.ta_core.specs.declared.tree.Tree.{Tree, out-Tree, out-roll-Tree}
 use Rattle.fa_core.specs.declared.forest.Target.TheVariants.{At}
 use Rattle.fa_core.specs.Canonical.{RefersTo, references, field_trees, IsShared, IsKnot, IsUntied}
 use Rattle.fa_core.specs.Ways.{Way, ways}
-use Rattle.fa_core.proofs.RowsBack.{null, opened}
-
-abbrev ref : ℕ → Tree
-ref r = roll-Tree (record { symbol = Ref r; children = [] })
-
-abbrev cell : List Slot → List Tree → Tree
-cell ss ts = roll-Tree (record { symbol = Cell 0 [] ss; children = ts })
+use Rattle.fa_core.proofs.RowsBack.{null, opened, ref, cell}
 
 -- Shared by references alone: two are enough, in one tree or in two.
 

@@ -17,7 +17,7 @@ use Rattle.fa_core.specs.declared.forest.Target.TheVariants.{Null as NullTarget,
 use Rattle.fa_core.specs.Dressed.{Node, Parts, node, leaf}
 use Rattle.fa_core.specs.Filled.{covers, least, IsInOrder}
 use Rattle.fa_core.specs.Folding.{covered_fields, top_places, cell_of, left, moved_symbol, moved_tree, moved_places}
-use Rattle.fa_core.specs.Folding.{ArePortFields, IsLanguageOf, IsFoldedTree, IsFoldedAuto}
+use Rattle.fa_core.specs.Folding.{ArePortFields, IsFoldedTree, IsFoldedAuto}
 use Rattle.fa_core.specs.Member.{bare, slots_of}
 use Rattle.fa_core.specs.Rearranged.{Rearranged, chain, IsRising}
 use Rattle.fa_core.proofs.NodeRuns.{PartsRun, EndRun, node_bare}
@@ -79,14 +79,6 @@ moved_rolled f x = fold-roll-Tree Tree
     (λ t. roll-Tree (record { symbol = moved_symbol f t.symbol; children = t.children })) x
 
 -- Languages of one tree.
-
-pub single_language : (g : Tree → Tree) (a b : Automaton) (t u : Tree) → IsSingle a → IsSingle b → InLanguage a t
-    → InLanguage b u
-    → g t ≡ u → IsLanguageOf g a b
-single_language g a b t u s z h k e v = (
-  (λ w. (t, h, single_tree b v u z w k ∙ sym e)),
-  (λ w. subst (λ (x : Tree). InLanguage b x) (sym (w.2 ∙ ap g (single_tree a w.0 t s w.1 h) ∙ e)) k),
-)
 
 -- the fields that the one tree covers are those of the port
 pub single_fields : (bs : List BoxFace) (a : Automaton) (t : Tree) (fs : List ℕ) → IsSingle a → InLanguage a t

@@ -5,13 +5,12 @@ use Rattle.std.proofs.lemmas.Option.{none-some, same_Some}
 use Rattle.fore_base.specs.Lists.{IsIn}
 use Rattle.ta_core.specs.declared.symbol.Slot.{Slot}
 use Rattle.ta_core.specs.declared.symbol.Slot.TheVariants.{Field, Link}
-use Rattle.ta_core.specs.declared.symbol.Symbol.TheVariants.{Ref, Cell}
-use Rattle.ta_core.specs.declared.tree.Tree.{Tree, roll-Tree}
+use Rattle.ta_core.specs.declared.tree.Tree.{Tree}
 use Rattle.fa_core.specs.declared.faces.BoxFace.{BoxFace}
 use Rattle.fa_core.specs.Canonical.{LeadsBack, IsOpen, provides, IsFirstOpen, GoesOn, Walks, ended, old, new, again}
 use Rattle.fa_core.specs.Canonical.{refs_at}
 use Rattle.fa_core.specs.Ways.{Way, Step, ways, leads_back, led_to, given, to_root, roots_met}
-use Rattle.fa_core.proofs.RowsBack.{null, opened}
+use Rattle.fa_core.proofs.RowsBack.{null, opened, ref, cell}
 
 -- Two boxes that lead back: the first gives its output field 1, the second field 2.
 
@@ -20,12 +19,6 @@ giver f = record { input = 0; output = Some 0; gives_in = 0 ∷ []; gives_out = 
 
 abbrev pair : List BoxFace
 pair = giver 1 ∷ giver 2 ∷ []
-
-abbrev ref : ℕ → Tree
-ref r = roll-Tree (record { symbol = Ref r; children = [] })
-
-abbrev cell : List Slot → List Tree → Tree
-cell ss ts = roll-Tree (record { symbol = Cell 0 [] ss; children = ts })
 
 -- root 0, which refers to nothing
 abbrev start : Tree

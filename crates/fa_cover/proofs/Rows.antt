@@ -1,5 +1,5 @@
 -- Worked answers of the first node that covers a forest, each made by hand.
-use Rattle.std.proofs.Common.{◌≡◌, ℕ, List, [], ◌∷◌, length, Some, None, refl, sym, ap, subst, arith}
+use Rattle.std.proofs.Common.{◌≡◌, List, [], ◌∷◌, length, Some, None, refl, sym, ap, subst, arith}
 use Rattle.std.proofs.lemmas.Option.{none-some, same_Some}
 use Rattle.fa_core.specs.Covering.{Covers}
 use Rattle.fa_core.specs.declared.forest.Forest.{Forest}

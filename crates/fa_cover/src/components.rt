@@ -1,6 +1,6 @@
 // Lists of automata compared.
 
-ghost use Rattle.std.specs.Prelude.{◌≡◌, ◌↔◌, IsTrue, IfOk};
+ghost use Rattle.std.specs.Prelude.{◌↔◌, IsTrue, IfOk};
 ghost use Rattle.fore_base.specs.Lists.{Paired};
 ghost use Rattle.ta_core.specs.Language.{IsWithin};
 

@@ -1,12 +1,11 @@
 // The parts of two forests compared.
 
-ghost use Rattle.std.specs.Prelude.{◌≡◌, ◌↔◌, IsTrue, IfOk};
+ghost use Rattle.std.specs.Prelude.{◌↔◌, IsTrue, IfOk};
 ghost use Rattle.fa_core.specs.Covering.{Covers};
 
 use crate::components::are_within;
-use fa_core::forest::{Forest, Target};
+use fa_core::forest::{Forest, are_same_data, are_same_targets};
 use fore_base::memory::Mem;
-use fore_base::store::Datum;
 use std::alloc::Global;
 
 /// Whether the one forest covers the other. Targets, data, the number of roots and the symbols of the roots' rules are
@@ -21,18 +20,4 @@ pub fn is_covered(alloc: Global, wide: &Forest, narrow: &Forest) -> Mem<bool>
         return Ok(false);
     }
     are_within(alloc, narrow.autos.as_slice(), wide.autos.as_slice())
-}
-
-/// Whether the pointer variables are at the same targets.
-fn are_same_targets(left: &[Target], right: &[Target]) -> bool
-    ensures { IsTrue result ↔ (left.now ≡ right.now) }
-{
-    left == right
-}
-
-/// Whether the data variables have the same values.
-fn are_same_data(left: &[Datum], right: &[Datum]) -> bool
-    ensures { IsTrue result ↔ (left.now ≡ right.now) }
-{
-    left == right
 }

@@ -20,13 +20,14 @@ use Rattle.fa_core.specs.Folding.{covered_fields}
 use Rattle.fa_core.specs.Ways.{Step, Way, ways, to_root, given, given_by, leads_through}
 use Rattle.fa_core.specs.Ways.{fields_out, is_back, all_back, leads_back, led_to, signature}
 use Rattle.fa_core.proofs.Rearranging.{back}
+use Rattle.fa_core.proofs.NodeSpots.{spots_out}
 use Rattle.fa_core.proofs.WayParts.{ways_out}
 use Rattle.fa_back.specs.Insides.{AlwaysReaches}
 use Rattle.fa_back.specs.Reached.{RootReached, by_var, by_tree, by_way, IsSignedBy}
 use Rattle.fa_back.proofs.ByMarks.{in_var_roots, signed_met}
 use Rattle.fa_box_rules.specs.Cells.{AreRight, IsRightUnder}
 use Rattle.fa_box_rules.specs.Rules.{Gives, root_fields, covered_at}
-use Rattle.fa_box_rules.proofs.SoundBoxes.{spots_out, some_choice, nil_only}
+use Rattle.fa_box_rules.proofs.SoundBoxes.{some_choice, nil_only}
 
 -- Lists that are empty.
 

@@ -22,11 +22,12 @@ use Rattle.fa_core.specs.Dressed.{Node, Parts, Nodes, node, no_parts, field, lin
 use Rattle.fa_core.specs.Dressed.{nth_value, roots_of, with_ports, tree_facts, slot_facts, port_facts, forest_facts}
 use Rattle.fa_core.specs.Filled.{Spot, spots, covers, HasField, IsFilledSpot, given_at, TreesFilled}
 use Rattle.fa_core.specs.Member.{TreesOf, InsidesOf, bare, slots_of}
-use Rattle.fa_core.specs.Rearranged.{Rearranged, empty, keep, swap, chain, often}
+use Rattle.fa_core.specs.Rearranged.{Rearranged, often}
 use Rattle.fa_core.proofs.Counts.{often_same, often_both}
 use Rattle.fa_core.proofs.Given.{Tip, tips, tips_of, all_tips, tip_to}
 use Rattle.fa_core.proofs.GivenTips.{given_tips}
 use Rattle.fa_core.proofs.NodeSpots.{node_spots, spots_are}
+use Rattle.fa_core.proofs.Rearranging.{long_same}
 use Rattle.fa_core.proofs.SeenCells.{node_structs}
 use Rattle.fa_facts.proofs.FactCounts.{if_so, given_n, owed_n, at_cell, at_value, fields_sum}
 use Rattle.fa_facts.proofs.FactCounts.{given_append, owed_append}
@@ -61,17 +62,11 @@ bare_tips bs (field f e ps) h = let z : suc (length (slots_of ps)) ≡ 0 = ap le
 bare_tips bs (link b i e ps) h = let z : suc (length (slots_of ps)) ≡ 0 = ap length h in absurd (omega (arith, z))
 bare_tips bs (hook b i ps) h = let z : suc (length (slots_of ps)) ≡ 0 = ap length h in absurd (omega (arith, z))
 
-rearranged_length : {xs ys : List ℕ} → Rearranged xs ys → length xs ≡ length ys
-rearranged_length empty = refl
-rearranged_length (keep x r) = ap suc (rearranged_length r)
-rearranged_length (swap x y xs) = refl
-rearranged_length (chain a b) = rearranged_length a ∙ rearranged_length b
-
 -- a port that is given nothing covers nothing, and nothing is given to it
 pub idle_port : (bs : List BoxFace) (ss : List Slot) (given : List ℕ) → Rearranged [] (flat_map (covers bs) ss ++ given)
     → (length (flat_map (covers bs) ss) ≡ 0) × (given ≡ [])
 idle_port bs ss given r =
-    let e : 0 ≡ length (flat_map (covers bs) ss ++ given) = rearranged_length r in
+    let e : 0 ≡ length (flat_map (covers bs) ss ++ given) = long_same r in
     let h = length-append (flat_map (covers bs) ss) given in
     (omega (arith, e, h), nil_from_length given (omega (arith, e, h)))
 

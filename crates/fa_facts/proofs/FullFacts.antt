@@ -11,9 +11,9 @@ use Rattle.fa_core.specs.Member.{OfForest}
 use Rattle.fa_core.specs.Rearranged.{Rearranged}
 use Rattle.fa_core.proofs.Dressing.{choice_of}
 use Rattle.fa_core.proofs.Given.{all_tips}
+use Rattle.fa_core.proofs.SameCounts.{alike}
 use Rattle.fa_core.proofs.SeenCells.{tops_structs}
 use Rattle.fa_facts.specs.Fields.{fields_at, fields_owed}
-use Rattle.fa_facts.proofs.Alike.{alike}
 use Rattle.fa_facts.proofs.BoxFields.{table_gives}
 use Rattle.fa_facts.proofs.FactCounts.{given_n, owed_n}
 use Rattle.fa_facts.proofs.ForestFields.{root_is, trees_count}

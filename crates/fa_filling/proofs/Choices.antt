@@ -14,7 +14,7 @@ use Rattle.fa_core.specs.Rearranged.{Rearranged, chain}
 use Rattle.fa_core.specs.Filled.{IsFilledSpot, spots, spots_at, covers, Choice, TopsAre, given_at, TreesFilled}
 use Rattle.fa_core.specs.Filled.{IsTopped}
 use Rattle.fa_core.proofs.Rearranging.{after, back}
-use Rattle.fa_filling.proofs.SpotRules.{spots_out, with_spots}
+use Rattle.fa_core.proofs.NodeSpots.{spots_out, with_spots}
 use Rattle.fa_filling.specs.Ruled.{AreTops, IsFilledPart}
 use Rattle.fa_filling.specs.declared.parts.Part.{Part}
 use Rattle.fa_filling.specs.Parted.{IsPartOf, AreParts, tops_of, all_tops, tops_but, ArePartsFilled}

@@ -80,7 +80,7 @@ some_same s t e = ap number e
 
 -- ENDS
 
-abbrev is_dangling : Symbol → Bool
+abbrev pub is_dangling : Symbol → Bool
 is_dangling Null = false
 is_dangling Uninit = false
 is_dangling Dangling = true

@@ -31,7 +31,7 @@ choice_through (b ∷ autos) a t f (inl e) l = let r = choice_any autos f.1 in
 choice_through (b ∷ autos) a t f (inr i) l = let r = choice_through autos a t f.1 i l in
     (f.0.0 ∷ r.0, (f.0.1, r.1), inr r.2)
 
-some_choice : (autos : List Automaton) → Every HasSome autos → (ts : List Tree) × Choice autos ts
+pub some_choice : (autos : List Automaton) → Every HasSome autos → (ts : List Tree) × Choice autos ts
 some_choice [] f = ([], tt)
 some_choice (x ∷ xs) f = let r = some_choice xs f.1 in (f.0.0 ∷ r.0, (f.0.1, r.1))
 

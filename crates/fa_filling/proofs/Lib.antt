@@ -1,6 +1,5 @@
 pub mod Choices
 pub mod Chosen
-pub mod Counting
 pub mod FilledRules
 pub mod Fillings
 pub mod Partition

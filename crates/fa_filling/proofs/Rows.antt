@@ -10,8 +10,8 @@ use Rattle.ta_core.specs.declared.symbol.Symbol.{Symbol}
 use Rattle.ta_core.specs.declared.symbol.Symbol.TheVariants.{Null, Uninit, Dangling, Ref, Cell}
 use Rattle.fa_core.specs.declared.faces.BoxFace.{BoxFace}
 use Rattle.fa_core.specs.declared.faces.Face.{Face}
-use Rattle.fa_core.specs.Rearranged.{Rearranged, empty, keep}
-use Rattle.fa_filling.proofs.Counting.{long_same}
+use Rattle.fa_core.specs.Rearranged.{empty, keep}
+use Rattle.fa_core.proofs.Rearranging.{long_same}
 use Rattle.fa_filling.specs.Given.{given_to}
 use Rattle.fa_filling.specs.Parted.{chosen, rules_of, tops_but}
 use Rattle.fa_filling.specs.Ruled.{EndAlways, SlotAlways, OnceBy, EdgeOnce, RootOnce}

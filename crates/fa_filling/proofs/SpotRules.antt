@@ -8,7 +8,7 @@ use Rattle.ta_core.specs.declared.symbol.Slot.{Slot}
 use Rattle.ta_core.specs.declared.symbol.Slot.TheVariants.{Field, Link, Hook}
 use Rattle.ta_core.specs.declared.symbol.Symbol.{Symbol}
 use Rattle.ta_core.specs.declared.symbol.Symbol.TheVariants.{Null, Uninit, Dangling, Ref, Cell}
-use Rattle.ta_core.specs.declared.tree.Tree.{Tree, Tree-F, out-Tree, roll-out-Tree, out-roll-Tree, para-roll-Tree}
+use Rattle.ta_core.specs.declared.tree.Tree.{Tree, Tree-F, out-Tree, out-roll-Tree}
 use Rattle.ta_core.specs.Arity.{child_slots, arity}
 use Rattle.ta_core.specs.Auto.{Automaton, IsRanked, IsRankedRule}
 use Rattle.ta_core.specs.Language.{InLanguage, HasTree, RunOf, run, RunEach, run_none, run_more, PassesBy, at_top}
@@ -20,6 +20,7 @@ use Rattle.fa_core.specs.Ways.{given_by}
 use Rattle.fa_core.specs.Cells.{edges}
 use Rattle.fa_core.specs.Filled.{Spot, spots, spots_at, child_spots}
 use Rattle.fa_filling.specs.Ruled.{spot, SymbolsOf, RuleSpots, BelowRule, SpotsFromRules}
+use Rattle.fa_core.proofs.NodeSpots.{spots_out, with_spots}
 
 -- the symbol at the top of a tree
 abbrev pub top_symbol : Tree → Symbol
@@ -46,31 +47,21 @@ module _ (bs : List BoxFace) where
   children_spots (Link b ∷ ss) (t ∷ ts) =
       ap (λ (l : List Spot). spots bs t (given_by bs (Link b)) ++ l) (children_spots ss ts)
 
-  abbrev pub with_spots : List Tree → List (Tree × (List ℕ → List Spot))
-  with_spots ts = map (λ c. (c, spots bs c)) ts
-
-  firsts : (ts : List Tree) → map (λ c. (out-Tree c.0).symbol) (with_spots ts) ≡ map (λ t. (out-Tree t).symbol) ts
+  firsts : (ts : List Tree) → map (λ c. (out-Tree c.0).symbol) (with_spots bs ts) ≡ map (λ t. (out-Tree t).symbol) ts
   firsts [] = refl
   firsts (t ∷ ts) = ap (λ (l : List Symbol). (out-Tree t).symbol ∷ l) (firsts ts)
 
-  seconds : (ts : List Tree) → map (λ c. c.1) (with_spots ts) ≡ map (spots bs) ts
+  seconds : (ts : List Tree) → map (λ c. c.1) (with_spots bs ts) ≡ map (spots bs) ts
   seconds [] = refl
   seconds (t ∷ ts) = ap (λ (l : List (List ℕ → List Spot)). spots bs t ∷ l) (seconds ts)
-
-  pub spots_out : (t : Tree) (above : List ℕ) → spots bs t above
-      ≡ spots_at bs (out-Tree t).symbol (with_spots (out-Tree t).children) above
-  spots_out t above =
-      ap (λ (u : Tree). spots bs u above) (sym (roll-out-Tree t))
-      ∙ ap (λ (f : List ℕ → List Spot). f above)
-      (para-roll-Tree (List ℕ → List Spot) (λ x. spots_at bs x.symbol x.children) (out-Tree t))
 
   -- the cells of a cell: itself, and those below its edges
   pub cell_spots : (t : Tree) (above : List ℕ) (s : ℕ) (ds : List Datum) (ss : List Slot) → (out-Tree t).symbol
       ≡ Cell s ds ss → spots bs t above ≡ spot s ss (map top_symbol (out-Tree t).children) above
       ∷ flat_map (λ e. spots bs e.1 (given_by bs e.0)) (edges ss (out-Tree t).children)
   cell_spots t above s ds ss e =
-      spots_out t above
-      ∙ ap (λ (y : Symbol). spots_at bs y (with_spots (out-Tree t).children) above) e
+      spots_out bs t above
+      ∙ ap (λ (y : Symbol). spots_at bs y (with_spots bs (out-Tree t).children) above) e
       ∙ ap₂ (λ (ys : List Symbol) (l : List Spot). spot s ss ys above ∷ l) (firsts (out-Tree t).children)
       (ap (λ (l : List (List ℕ → List Spot)). child_spots bs ss l) (seconds (out-Tree t).children)
       ∙ children_spots ss (out-Tree t).children)
@@ -118,10 +109,11 @@ module _ (bs : List BoxFace) where
         (k.0, flat_every (edges ss (out-Tree t).children) k.1)
 
     pub leaf_holds : (t : Tree) (above : List ℕ) (y : Symbol) → (out-Tree t).symbol ≡ y
-        → spots_at bs y (with_spots (out-Tree t).children) above ≡ [] → Holds t above
+        → spots_at bs y (with_spots bs (out-Tree t).children) above ≡ [] → Holds t above
     leaf_holds t above y e k =
         subst (Every P)
-        (sym (spots_out t above ∙ ap (λ (z : Symbol). spots_at bs z (with_spots (out-Tree t).children) above) e ∙ k)) tt
+        (sym (spots_out bs t above
+            ∙ ap (λ (z : Symbol). spots_at bs z (with_spots bs (out-Tree t).children) above) e ∙ k)) tt
 
     module _ (rules : List Rule) where
       pub symbols_of : {qs : List ℕ} {ts : List Tree} → RunEach rules qs ts

@@ -1,7 +1,7 @@
 // Whether each choice of a tree for each root is filled, from the parts of the components.
 
-ghost use Rattle.std.specs.Prelude.{◌≡◌, ◌↔◌, ◌<◌, ◌∷◌, [], ℕ, List, map, length, slice_set, IsTrue, IfOk, MatchOption};
-ghost use Rattle.fore_base.specs.Lists.{IsIn, Every};
+ghost use Rattle.std.specs.Prelude.{◌≡◌, ◌↔◌, ◌<◌, [], List, length, IsTrue, IfOk, MatchOption};
+ghost use Rattle.fore_base.specs.Lists.{Every};
 ghost use Rattle.ta_core.specs.declared.tree.Tree.{Tree};
 ghost use Rattle.ta_core.specs.Language.{IsTrim};
 ghost use Rattle.fa_core.specs.Filled.{Choice, ChoiceFilled, IsRoot, HasSome};
@@ -92,8 +92,8 @@ fn are_parts_filled(
 }
 
 /// Whether each of these parts, those of the component at the place, is filled, where the fields `above` are given to
-/// its root. For each component `tops` has the
-/// structs that may stand at its top, but at the place it may have others, and is left with others.
+/// its root. For each component `tops` has the structs that may stand at its top, but at the place it may have others,
+/// and is left with others.
 fn are_filled_at(
     alloc: Global,
     face: &Face,

@@ -1,6 +1,6 @@
 // Whether each field of each cell of an automaton's trees is given exactly once, from its rules.
 
-ghost use Rattle.std.specs.Prelude.{◌≡◌, ◌↔◌, ℕ, IsTrue, IfOk};
+ghost use Rattle.std.specs.Prelude.{◌↔◌, ℕ, IsTrue, IfOk};
 ghost use Rattle.fore_base.specs.Lists.{IsIn, Every};
 ghost use Rattle.ta_core.specs.Language.{IsTrim};
 ghost use Rattle.fa_filling.specs.Ruled.{IsShapedCell, IsShapedRule, IsFilledPart};

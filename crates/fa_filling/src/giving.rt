@@ -1,12 +1,12 @@
 // Whether each field of the cells of rules is given exactly once.
 
 ghost use Rattle.std.specs.Prelude.{◌≡◌, ◌↔◌, ◌++◌, flat_map, IsTrue, IfOk};
-ghost use Rattle.fore_base.specs.Lists.{IsIn, Every};
+ghost use Rattle.fore_base.specs.Lists.{Every};
 ghost use Rattle.fa_core.specs.Filled.{covers, fields_of};
 ghost use Rattle.fa_core.specs.Rearranged.{Rearranged, often};
 ghost use Rattle.fa_core.specs.Cells.{edges};
 ghost use Rattle.fa_core.specs.Ways.{given_by, gives_out_of};
-ghost use Rattle.fa_filling.specs.Ruled.{OnceBy, StateOnce, RootOnce, EdgeOnce, OnceBelow, IsOnceBelow};
+ghost use Rattle.fa_filling.specs.Ruled.{OnceBy, StateOnce, RootOnce, EdgeOnce, IsOnceBelow};
 
 use crate::covering::covered;
 use crate::fields::fields_of;

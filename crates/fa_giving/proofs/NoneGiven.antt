@@ -1,6 +1,7 @@
 -- Fields that no box gives, and sums of nothing.
-use Rattle.std.proofs.Common.{◌≡◌, ℕ, zero, suc, ◌<◌, ◌≤◌, ◌+◌, Bool, true, false, ◌&&◌, List, [], ◌∷◌}
+use Rattle.std.proofs.Common.{◌≡◌, ℕ, zero, suc, ◌<◌, ◌≤◌, ◌+◌, Bool, List, [], ◌∷◌}
 use Rattle.std.proofs.Common.{replicate, set, refl, ap, ap₂, ◌∙◌, arith}
+use Rattle.std.proofs.Math.Bool.{and-true}
 use Rattle.std.proofs.lemmas.Bool.Decides.{nat_tests}
 use Rattle.fore_base.specs.Lists.{IsIn}
 use Rattle.fore_base.proofs.ListLemmas.{in_left, in_right}
@@ -29,14 +30,10 @@ no_weight f bs n (Link b) = often_out f (gives_out_of bs b) (λ i. n (gives_in f
 capped_same : (n : ℕ) → n ≤ 2 → capped (n + 0) ≡ n
 capped_same n l = grind (arith, nat_tests)
 
-and_true : (b : Bool) → (b && true) ≡ b
-and_true true = refl
-and_true false = refl
-
 added_none : (x : Extremes) → x.most ≤ 2 → added x none_given ≡ x
 added_none x l =
     ap₂ (λ (m : ℕ) (b : Bool). let e : Extremes = record { most = m; none = b }
-    in e) (capped_same x.most l) (and_true x.none)
+    in e) (capped_same x.most l) (and-true x.none)
 
 total_nones : (n : ℕ) (x : Extremes) → x.most ≤ 2 → total x (replicate n none_given) ≡ x
 total_nones zero x l = refl

@@ -1,8 +1,9 @@
 -- The cells below others: rules that say of each that its fields are given once, or a choice in which one is not.
 use Rattle.std.proofs.Common.{◌≡◌, ◌↔◌, ◌⊎◌, inl, inr, ℕ, zero, suc, ◌<◌, ◌≤◌, Bool, true, false, true≢false, List, []}
-use Rattle.std.proofs.Common.{◌∷◌, ◌++◌, length, length-append, flat_map, nat_eq, Some, slice_get}
+use Rattle.std.proofs.Common.{◌∷◌, ◌++◌, length, length-append, flat_map, Some, slice_get}
 use Rattle.std.proofs.Common.{refl, sym, ap, subst, ◌∙◌, arith, IsTrue}
-use Rattle.std.proofs.lemmas.Bool.{eqb-true, eq-eqb}
+use Rattle.std.proofs.lemmas.Bool.{cases_eq}
+use Rattle.std.proofs.lemmas.Option.{none-some, same_Some}
 use Rattle.fore_base.specs.Lists.{IsIn, Every}
 use Rattle.fore_base.specs.declared.store.Datum.{Datum}
 use Rattle.ta_core.specs.Auto.{Automaton, IsRanked, IsRankedRule}
@@ -21,8 +22,10 @@ use Rattle.fa_core.specs.Cells.{edges}
 use Rattle.fa_core.specs.Filled.{Choice, HasSome, Spot, covers, fields_of, spots}
 use Rattle.fa_core.specs.Rearranged.{Rearranged, often}
 use Rattle.fa_core.specs.Ways.{given_by, gives_out_of}
+use Rattle.fa_core.proofs.Counts.{often_same}
+use Rattle.fa_core.proofs.Rearranging.{long_same}
+use Rattle.fa_core.proofs.SameCounts.{alike_by}
 use Rattle.fa_filling.specs.Ruled.{BelowRule, OnceBy, StateOnce, EdgeOnce, OnceBelow, IsOnceBelow}
-use Rattle.fa_filling.proofs.Counting.{long_same, often_same, rearranged_by}
 use Rattle.fa_filling.proofs.SpotRules.{
   Holds,
   HoldsBelow,
@@ -36,17 +39,10 @@ use Rattle.fa_filling.proofs.SpotRules.{
 use Rattle.fa_filling.proofs.SpotRules.{tree_spot}
 use Rattle.fa_giving.specs.inner.Shaped.{IsOnceSpot, IsOnceRoot}
 use Rattle.fa_giving.specs.inner.Totals.{ForAll}
-use Rattle.fa_giving.proofs.RootFields.{choice_at, none_some, some_same}
+use Rattle.fa_giving.proofs.RootFields.{choice_at}
 use Rattle.fa_giving.proofs.Sums.{state_trees}
 
 -- DECISIONS
-
-pub number_same : (m n : ℕ) → (m ≡ n) ⊎ (m ≡ n → ⊥)
-number_same m n = here (nat_eq m n) refl
-  where
-    here : (b : Bool) → nat_eq m n ≡ b → (m ≡ n) ⊎ (m ≡ n → ⊥)
-    here true e = inl (eqb-true m n e)
-    here false e = inr (λ d. true≢false (sym (eq-eqb m n d) ∙ e))
 
 -- each item meets P, or something else holds
 pub each_or : {X B : Type 0} (P : X → Type 0) (xs : List X) → ((x : X) → IsIn x xs → P x ⊎ B) → Every P xs ⊎ B
@@ -57,21 +53,21 @@ each_or P (x ∷ xs) h = elim (h x (inl refl)) [
 ]
 
 pub rearranged_or : (xs ys : List ℕ) → Rearranged xs ys ⊎ (Rearranged xs ys → ⊥)
-rearranged_or xs ys = elim (number_same (length xs) (length ys)) [
+rearranged_or xs ys = elim (cases_eq (length xs) (length ys)) [
   | inr n ↦ inr (λ r. n (long_same r))
   | inl l ↦ elim (each_or {B = Rearranged xs ys → ⊥} (λ (n : ℕ). often n xs ≡ often n ys) xs (λ n i.
-      elim (number_same (often n xs) (often n ys)) [ inl e ↦ inl e | inr d ↦ inr (λ r. d (often_same n r)) ])) [
+      elim (cases_eq (often n xs) (often n ys)) [ inl e ↦ inl e | inr d ↦ inr (λ r. d (often_same n r)) ])) [
         | inr n ↦ inr n
-        | inl h ↦ inl (rearranged_by xs ys l (λ n i. every_in (λ (n : ℕ). often n xs ≡ often n ys) xs n h i))
+        | inl h ↦ inl (alike_by xs ys l (λ n i. every_in (λ (n : ℕ). often n xs ≡ often n ys) xs n h i))
       ]
 ]
 
 -- a choice with this tree at the root
 pub choice_put : (autos : List Automaton) (r : ℕ) (a : Automaton) (v : Tree) → slice_get autos r ≡ Some a
     → Every HasSome autos → InLanguage a v → (ts : List Tree) × Choice autos ts × (slice_get ts r ≡ Some v)
-choice_put [] r a v e f l = absurd (none_some a e)
+choice_put [] r a v e f l = absurd (none-some a e)
 choice_put (x ∷ autos) zero a v e f l = let k = some_choice autos f.1 in
-    (v ∷ k.0, (subst (λ (y : Automaton). InLanguage y v) (sym (some_same x a e)) l, k.1), refl)
+    (v ∷ k.0, (subst (λ (y : Automaton). InLanguage y v) (sym (same_Some x a e)) l, k.1), refl)
   where
     some_choice : (autos : List Automaton) → Every HasSome autos → (ts : List Tree) × Choice autos ts
     some_choice [] f = ([], tt)
@@ -204,7 +200,7 @@ module _ (face : Face) (autos : List Automaton) (r : ℕ) (a : Automaton) (ranke
       at_rule o i (Ref n) e = inl (subst (λ (y : Symbol). OnceBelow face a.rules y o.children) (sym e) tt)
       at_rule o i (Cell s ds ss) e =
           elim (each_or {B = Wrong} (EdgeOnce face a.rules) (edges ss o.children) (λ d j. each_or
-          (StateOnce face (given_by face.boxes d.0) d.1) a.rules (λ p m. elim (number_same p.state d.1) [
+          (StateOnce face (given_by face.boxes d.0) d.1) a.rules (λ p m. elim (cases_eq p.state d.1) [
             | inr n ↦ inl (λ x. absurd (n x))
             | inl x ↦ elim (at_child o i s ds ss e d j p m x p.symbol refl) [ inl h ↦ inl (λ y. h) | inr b ↦ inr b ]
           ]))) [

@@ -4,6 +4,7 @@ use Rattle.std.proofs.Common.{◌≡◌, ℕ, zero, suc, ◌<◌, ◌≤◌, ◌
 use Rattle.std.proofs.Common.{◌∷◌, ◌++◌, length, map, flat_map, cond, nat_eq, nat_lt, Some, slice_get}
 use Rattle.std.proofs.Common.{refl, sym, ap, subst, ◌∙◌, arith}
 use Rattle.std.proofs.lemmas.Bool.{eqb-true, eq-eqb, ltb-true, ltb-false}
+use Rattle.std.proofs.lemmas.Option.{none-some, same_Some}
 use Rattle.fore_base.specs.Lists.{IsIn, Every, IsDistinct}
 use Rattle.fore_base.specs.declared.store.Datum.{Datum}
 use Rattle.ta_core.specs.Auto.{Automaton}
@@ -14,38 +15,19 @@ use Rattle.ta_core.specs.declared.tree.Tree.{Tree, out-Tree}
 use Rattle.fa_core.specs.declared.faces.Face.{Face}
 use Rattle.fa_core.specs.Cells.{edges}
 use Rattle.fa_core.specs.Filled.{Spot, spots, spots_at, covers, fields_of, given_at}
-use Rattle.fa_core.specs.Rearranged.{Rearranged, empty, keep, chain, often}
+use Rattle.fa_core.specs.Rearranged.{often}
 use Rattle.fa_core.specs.Ways.{given_by}
-use Rattle.fa_core.proofs.Counts.{often_out, often_in}
+use Rattle.fa_core.proofs.Counts.{often_same, often_out, often_in}
+use Rattle.fa_core.proofs.NodeSpots.{spots_out, with_spots}
+use Rattle.fa_core.proofs.SameCounts.{alike}
 use Rattle.fa_box_rules.specs.Cells.{IsRightCell, IsRightUnder, AreRight}
 use Rattle.fa_filling.specs.Ruled.{spot}
-use Rattle.fa_filling.proofs.Counting.{often_same, taken, without, back}
-use Rattle.fa_filling.proofs.SpotRules.{spots_out, with_spots, cell_spots, every_flat, flat_every, top_symbol}
+use Rattle.fa_filling.proofs.SpotRules.{cell_spots, every_flat, flat_every, top_symbol}
 use Rattle.fa_filling.proofs.Fillings.{choice_long}
 use Rattle.fa_giving.specs.inner.Shaped.{IsShapedSpot, IsShapedRoot, IsOnceSpot, IsOnceRoot}
 use Rattle.fa_giving.specs.inner.Totals.{IsGivenRight, Fits, ForAll}
-use Rattle.fa_giving.proofs.RootFields.{none_some, some_same}
 
 -- COUNTS
-
-rearranged_all : (xs ys : List ℕ) → ((n : ℕ) → often n xs ≡ often n ys) → Rearranged xs ys
-rearranged_all [] [] f = empty
-rearranged_all [] (y ∷ ys) f =
-    let e = eq-eqb y y refl in
-    let h : often y (y ∷ ys) ≡ often y ys + 1 = rw e refl in
-    let g = f y in absurd (omega (arith, h, g))
-rearranged_all (x ∷ xs) ys f =
-    let e = eq-eqb x x refl in
-    let h : often x (x ∷ xs) ≡ often x xs + 1 = rw e refl in
-    let g = f x in
-    let k : 1 ≤ often x ys = omega (arith, h, g) in
-    let t = taken x ys k in
-    chain (keep x (rearranged_all xs (without x ys) (λ n. less n (nat_eq n x) (f n ∙ often_same n t)))) (back t)
-  where
-    less : (n : ℕ) (b : Bool) → cond b (often n xs + 1) (often n xs)
-        ≡ cond b (often n (without x ys) + 1) (often n (without x ys)) → often n xs ≡ often n (without x ys)
-    less n true e = omega (arith, e)
-    less n false e = e
 
 distinct_often : (xs : List ℕ) → IsDistinct xs → (n : ℕ) → often n xs ≤ 1
 distinct_often [] h n = omega arith
@@ -111,12 +93,12 @@ module _ (face : Face) (all : List Tree) where
 
   are_to : (r n : ℕ) (ts : List Tree) → AreRight face all r n ts → (k : ℕ) (t : Tree) → slice_get ts k ≡ Some t
       → RightAt (r + k) k n t
-  are_to r n [] h k t e = absurd (none_some t e)
+  are_to r n [] h k t e = absurd (none-some t e)
   are_to r zero (u ∷ ts) h zero t e = (
     (λ l. absurd (omega (arith, l))),
     (λ l. subst (λ (m : ℕ). Every (IsRightCell face all) (spots face.boxes t (given_at face.boxes all m))) (omega arith)
         (subst (λ (v : Tree). Every (IsRightCell face all) (spots face.boxes v (given_at face.boxes all r)))
-        (some_same u t e) h.0)),
+        (same_Some u t e) h.0)),
   )
   are_to r zero (u ∷ ts) h (suc k) t e = let g = are_to (suc r) zero ts h.1 k t e in (
     (λ l. absurd (omega (arith, l))),
@@ -126,7 +108,7 @@ module _ (face : Face) (all : List Tree) where
   are_to r (suc n) (u ∷ ts) h zero t e = (
     (λ l. subst (λ (m : ℕ). IsRightUnder face all (spots face.boxes t (given_at face.boxes all m))) (omega arith)
         (subst (λ (v : Tree). IsRightUnder face all (spots face.boxes v (given_at face.boxes all r)))
-        (some_same u t e) h.0)),
+        (same_Some u t e) h.0)),
     (λ l. absurd (omega (arith, l))),
   )
   are_to r (suc n) (u ∷ ts) h (suc k) t e = let g = are_to (suc r) n ts h.1 k t e in (
@@ -173,7 +155,7 @@ module _ (face : Face) (all : List Tree) where
         record {
           ends = parts.0.ends;
           order = parts.0.order;
-          once = rearranged_all _ _ (λ f. sym (inner_fits (nat_lt k n) (is_inner l) f (given f t s ds ss at d)));
+          once = alike _ _ (λ f. sym (inner_fits (nat_lt k n) (is_inner l) f (given f t s ds ss at d)));
         },
         below,
       )),
@@ -290,7 +272,7 @@ module _ (face : Face) (all : List Tree) where
   zero_at k n t h = subst (λ (m : ℕ). RightAt m k n t) (omega arith) h
 
   inside_of : (ts : List Tree) (k : ℕ) (t : Tree) → slice_get ts k ≡ Some t → k < length ts
-  inside_of [] k t e = absurd (none_some t e)
+  inside_of [] k t e = absurd (none-some t e)
   inside_of (u ∷ ts) zero t e = omega arith
   inside_of (u ∷ ts) (suc k) t e = let l = inside_of ts k t e in omega (arith, l)
 

@@ -1,8 +1,9 @@
 -- What is given at the cells of roots, for each choice.
 use Rattle.std.proofs.Common.{◌≡◌, ◌↔◌, inl, inr, ℕ, zero, suc, ◌<◌, ◌≤◌, ◌+◌, Bool, true, false, true≢false, List, []}
-use Rattle.std.proofs.Common.{◌∷◌, ◌++◌, map, flat_map, set, cond, nat_eq, nat_lt, Some, None, slice_get}
+use Rattle.std.proofs.Common.{◌∷◌, ◌++◌, map, flat_map, set, cond, nat_eq, nat_lt, Some, slice_get}
 use Rattle.std.proofs.Common.{refl, sym, ap, subst, ◌∙◌, arith, IsTrue}
 use Rattle.std.proofs.lemmas.Bool.{ltb-true, ltb-false, eqb-true}
+use Rattle.std.proofs.lemmas.Option.{none-some, same_Some}
 use Rattle.fore_base.specs.Lists.{IsIn, Every, Paired}
 use Rattle.fore_base.specs.declared.store.Datum.{Datum}
 use Rattle.ta_core.specs.Auto.{Automaton, IsRanked}
@@ -18,6 +19,7 @@ use Rattle.fa_core.specs.declared.faces.BoxFace.{BoxFace}
 use Rattle.fa_core.specs.declared.faces.Face.{Face}
 use Rattle.fa_core.specs.Cells.{edges, is_leaf}
 use Rattle.fa_core.specs.Filled.{Choice, covers, fields_of, given_at, numbered}
+use Rattle.fa_core.specs.Folding.{symbol_slots}
 use Rattle.fa_core.specs.Rearranged.{often}
 use Rattle.fa_core.specs.Ways.{Way, ways, ways_at, given, given_by, gives_out_of, longer}
 use Rattle.fa_core.proofs.CellMarks.{given_through}
@@ -151,53 +153,47 @@ module _ (bs : List BoxFace) (r f : ℕ) where
 
 -- CHOICES WITH ONE RULE AT A ROOT
 
-pub none_some : {X : Type 0} (x : X) → None ≡ Some x → ⊥
-none_some x h = cc
-
-pub some_same : {X : Type 0} (x y : X) → Some x ≡ Some y → x ≡ y
-some_same x y h = cc
-
 -- the component at a place is another one
 pub choice_from : (autos : List Automaton) (r : ℕ) (a b : Automaton) (ts : List Tree) → slice_get autos r ≡ Some a
     → ((t : Tree) → slice_get ts r ≡ Some t → InLanguage a t → InLanguage b t) → Choice autos ts
     → Choice (set autos r b) ts
-choice_from [] r a b ts e g c = absurd (none_some a e)
+choice_from [] r a b ts e g c = absurd (none-some a e)
 choice_from (x ∷ autos) r a b [] e g c = absurd c
 choice_from (x ∷ autos) zero a b (t ∷ ts) e g c =
-    (g t refl (subst (λ (y : Automaton). InLanguage y t) (some_same x a e) c.0), c.1)
+    (g t refl (subst (λ (y : Automaton). InLanguage y t) (same_Some x a e) c.0), c.1)
 choice_from (x ∷ autos) (suc r) a b (t ∷ ts) e g c = (c.0, choice_from autos r a b ts e g c.1)
 
 pub choice_to : (autos : List Automaton) (r : ℕ) (a b : Automaton) (ts : List Tree) → slice_get autos r ≡ Some a
     → ((t : Tree) → InLanguage b t → InLanguage a t) → Choice (set autos r b) ts → Choice autos ts
-choice_to [] r a b ts e g c = absurd (none_some a e)
+choice_to [] r a b ts e g c = absurd (none-some a e)
 choice_to (x ∷ autos) zero a b [] e g c = absurd c
 choice_to (x ∷ autos) (suc r) a b [] e g c = absurd c
 choice_to (x ∷ autos) zero a b (t ∷ ts) e g c =
-    (subst (λ (y : Automaton). InLanguage y t) (sym (some_same x a e)) (g t c.0), c.1)
+    (subst (λ (y : Automaton). InLanguage y t) (sym (same_Some x a e)) (g t c.0), c.1)
 choice_to (x ∷ autos) (suc r) a b (t ∷ ts) e g c = (c.0, choice_to autos r a b ts e g c.1)
 
 -- the tree there
 pub choice_there : (autos : List Automaton) (r : ℕ) (a b : Automaton) (ts : List Tree) (t : Tree)
     → slice_get autos r ≡ Some a → slice_get ts r ≡ Some t → Choice (set autos r b) ts → InLanguage b t
-choice_there [] r a b ts t e d c = absurd (none_some a e)
+choice_there [] r a b ts t e d c = absurd (none-some a e)
 choice_there (x ∷ autos) zero a b [] t e d c = absurd c
 choice_there (x ∷ autos) (suc r) a b [] t e d c = absurd c
-choice_there (x ∷ autos) zero a b (u ∷ ts) t e d c = subst (InLanguage b) (some_same u t d) c.0
+choice_there (x ∷ autos) zero a b (u ∷ ts) t e d c = subst (InLanguage b) (same_Some u t d) c.0
 choice_there (x ∷ autos) (suc r) a b (u ∷ ts) t e d c = choice_there autos r a b ts t e d c.1
 
 pub choice_at : (autos : List Automaton) (r : ℕ) (a : Automaton) (ts : List Tree) (t : Tree)
     → slice_get autos r ≡ Some a
     → slice_get ts r ≡ Some t → Choice autos ts → InLanguage a t
-choice_at [] r a ts t e d c = absurd (none_some a e)
+choice_at [] r a ts t e d c = absurd (none-some a e)
 choice_at (x ∷ autos) r a [] t e d c = absurd c
 choice_at (x ∷ autos) zero a (u ∷ ts) t e d c =
-    subst (InLanguage a) (some_same u t d) (subst (λ (y : Automaton). InLanguage y u) (some_same x a e) c.0)
+    subst (InLanguage a) (same_Some u t d) (subst (λ (y : Automaton). InLanguage y u) (same_Some x a e) c.0)
 choice_at (x ∷ autos) (suc r) a (u ∷ ts) t e d c = choice_at autos r a ts t e d c.1
 
 -- there is a tree
 pub choice_has : (autos : List Automaton) (r : ℕ) (a : Automaton) (ts : List Tree) → slice_get autos r ≡ Some a
     → Choice autos ts → (t : Tree) × (slice_get ts r ≡ Some t)
-choice_has [] r a ts e c = absurd (none_some a e)
+choice_has [] r a ts e c = absurd (none-some a e)
 choice_has (x ∷ autos) r a [] e c = absurd c
 choice_has (x ∷ autos) zero a (u ∷ ts) e c = (u, refl)
 choice_has (x ∷ autos) (suc r) a (u ∷ ts) e c = choice_has autos r a ts e c.1
@@ -266,7 +262,7 @@ fit_not n L e false need c h k = first (nat_lt need (c + e.most)) refl
     first false v = second (nat_lt c need) refl (ltb-false need (c + e.most) v)
 
 pub cell_same : (s u : ℕ) (ds es : List Datum) (ss vs : List Slot) → Cell s ds ss ≡ Cell u es vs → (s ≡ u) × (ss ≡ vs)
-cell_same s u ds es ss vs h = (ap shape h, ap slots h)
+cell_same s u ds es ss vs h = (ap shape h, ap symbol_slots h)
   where
     shape : Symbol → ℕ
     shape Null = 0
@@ -274,13 +270,6 @@ cell_same s u ds es ss vs h = (ap shape h, ap slots h)
     shape Dangling = 0
     shape (Ref r) = 0
     shape (Cell s ds ss) = s
-
-    slots : Symbol → List Slot
-    slots Null = []
-    slots Uninit = []
-    slots Dangling = []
-    slots (Ref r) = []
-    slots (Cell s ds ss) = ss
 
 module _ (face : Face) (port : Bool) (r f : ℕ) (autos : List Automaton) (a : Automaton) (ranked : IsRanked a)
     (own : slice_get autos r ≡ Some a) where
@@ -385,7 +374,7 @@ module _ (face : Face) (port : Bool) (r f : ℕ) (autos : List Automaton) (a : A
           let g = every_in (λ (o : Rule). ForTop autos r a o Right true) tops o k w in
           g ts (choice_from autos r a (chosen a (o ∷ [])) ts own
           (λ u n b. runs_chosen a (o ∷ []) ranked.1 (right o i top) u o (inl refl)
-          (subst (RunBy a.rules o) (some_same t u (sym e ∙ n)) (y, l))) c) t s ds ss e d
+          (subst (RunBy a.rules o) (same_Some t u (sym e ∙ n)) (y, l))) c) t s ds ss e d
 
   -- a field of which there is nothing to ask
   pub other_field : (tops : List Rule) (fields : List ℕ) → AreTopRules a a.rules tops

@@ -2,7 +2,8 @@
 use Rattle.std.proofs.Common.{◌≡◌, ◌⊎◌, inl, inr, ℕ, zero, suc, ◌<◌, Bool, true, false, true≢false, List, []}
 use Rattle.std.proofs.Common.{◌∷◌, length, map, set, nat_lt, Option, Some, None, slice_get}
 use Rattle.std.proofs.Common.{refl, sym, ap, subst, ◌∙◌, arith}
-use Rattle.std.proofs.lemmas.Bool.{ltb-true, ltb-false}
+use Rattle.std.proofs.lemmas.Bool.{ltb-true, ltb-false, cases_eq}
+use Rattle.std.proofs.lemmas.Option.{none-some, same_Some}
 use Rattle.fore_base.specs.Lists.{IsIn, Every, Paired}
 use Rattle.fore_base.specs.declared.store.Datum.{Datum}
 use Rattle.ta_core.specs.Arity.{child_slots, arity}
@@ -40,11 +41,12 @@ use Rattle.fa_filling.specs.Ruled.{SymbolsOf, RuleSpots, IsAlone, FieldAlways, L
 use Rattle.fa_filling.specs.Ruled.{EndAlways, RuleAlways, EdgeAlways, HookAlways, SlotAlways, IsShapedCell, ShapedBy}
 use Rattle.fa_filling.specs.Ruled.{IsShapedRule, spot}
 use Rattle.fa_filling.proofs.SpotRules.{put, rule_tree, tree_spot, spots_by_rules}
-use Rattle.fa_filling.proofs.FilledRules.{all_symbols, symbols_with}
+use Rattle.fa_filling.proofs.FilledRules.{all_symbols, symbols_with, is_dangling}
+use Rattle.fa_filling.proofs.Fillings.{some_choice}
 use Rattle.fa_giving.specs.inner.Shaped.{IsShapedSpot, IsShapedRoot, AreTopStructs}
 use Rattle.fa_giving.specs.inner.Totals.{ForAll}
-use Rattle.fa_giving.proofs.OnceRules.{number_same, each_or}
-use Rattle.fa_giving.proofs.RootFields.{none_some, some_same, cell_same}
+use Rattle.fa_giving.proofs.OnceRules.{each_or}
+use Rattle.fa_giving.proofs.RootFields.{cell_same}
 use Rattle.fa_giving.proofs.Sums.{state_trees}
 
 topped_once : (t : Tree) (s u : ℕ) → IsTopped s t → IsTopped u t → s ≡ u
@@ -59,32 +61,28 @@ TopsHold T ts = (k : ℕ) (tl : List ℕ) → slice_get T k ≡ Some tl → (t :
 
 tops_hold : (autos : List Automaton) (topss : List (List ℕ)) (ts : List Tree) → Paired AreTopStructs autos topss
     → Choice autos ts → TopsHold topss ts
-tops_hold [] [] [] p c k tl e = absurd (none_some tl e)
+tops_hold [] [] [] p c k tl e = absurd (none-some tl e)
 tops_hold [] [] (t ∷ ts) p c k tl e = absurd c
 tops_hold [] (x ∷ topss) ts p c k tl e = absurd p
 tops_hold (a ∷ autos) [] ts p c k tl e = absurd p
 tops_hold (a ∷ autos) (x ∷ topss) [] p c k tl e = absurd c
 tops_hold (a ∷ autos) (x ∷ topss) (t ∷ ts) p c zero tl e =
-    (t, refl, λ u h. subst (λ (l : List ℕ). IsIn u l) (some_same x tl e) (p.0.each t u c.0 h))
+    (t, refl, λ u h. subst (λ (l : List ℕ). IsIn u l) (same_Some x tl e) (p.0.each t u c.0 h))
 tops_hold (a ∷ autos) (x ∷ topss) (t ∷ ts) p c (suc k) tl e = tops_hold autos topss ts p.1 c.1 k tl e
 
 hold_set : (autos : List Automaton) (topss : List (List ℕ)) (ts : List Tree) (r s : ℕ)
     → Paired AreTopStructs autos topss
     → Choice autos ts → ((t : Tree) → slice_get ts r ≡ Some t → IsTopped s t) → TopsHold (set topss r (s ∷ [])) ts
-hold_set [] [] ts r s p c h k tl e = absurd (none_some tl e)
+hold_set [] [] ts r s p c h k tl e = absurd (none-some tl e)
 hold_set [] (x ∷ topss) ts r s p c h k tl e = absurd p
 hold_set (a ∷ autos) [] ts r s p c h k tl e = absurd p
 hold_set (a ∷ autos) (x ∷ topss) [] r s p c h k tl e = absurd c
 hold_set (a ∷ autos) (x ∷ topss) (t ∷ ts) zero s p c h zero tl e =
-    (t, refl, λ u g. subst (λ (l : List ℕ). IsIn u l) (some_same (s ∷ []) tl e) (inl (topped_once t u s g (h t refl))))
+    (t, refl, λ u g. subst (λ (l : List ℕ). IsIn u l) (same_Some (s ∷ []) tl e) (inl (topped_once t u s g (h t refl))))
 hold_set (a ∷ autos) (x ∷ topss) (t ∷ ts) zero s p c h (suc k) tl e = tops_hold autos topss ts p.1 c.1 k tl e
 hold_set (a ∷ autos) (x ∷ topss) (t ∷ ts) (suc r) s p c h zero tl e =
-    (t, refl, λ u g. subst (λ (l : List ℕ). IsIn u l) (some_same x tl e) (p.0.each t u c.0 g))
+    (t, refl, λ u g. subst (λ (l : List ℕ). IsIn u l) (same_Some x tl e) (p.0.each t u c.0 g))
 hold_set (a ∷ autos) (x ∷ topss) (t ∷ ts) (suc r) s p c h (suc k) tl e = hold_set autos topss ts r s p.1 c.1 h k tl e
-
-some_choice : (autos : List Automaton) → Every HasSome autos → (ts : List Tree) × Choice autos ts
-some_choice [] f = ([], tt)
-some_choice (x ∷ xs) f = let r = some_choice xs f.1 in (f.0.0 ∷ r.0, (f.0.1, r.1))
 
 -- a choice with a tree of this top at place k
 abbrev HasTop : List Automaton → ℕ → ℕ → Type 0
@@ -92,11 +90,11 @@ HasTop autos k u = (ts : List Tree) × Choice autos ts × ((w : Tree) × (slice_
 
 pick_in : (autos : List Automaton) (topss : List (List ℕ)) (k : ℕ) (tl : List ℕ) (u : ℕ) → Every HasSome autos
     → Paired AreTopStructs autos topss → slice_get topss k ≡ Some tl → IsIn u tl → HasTop autos k u
-pick_in [] [] k tl u f p e i = absurd (none_some tl e)
+pick_in [] [] k tl u f p e i = absurd (none-some tl e)
 pick_in [] (x ∷ topss) k tl u f p e i = absurd p
 pick_in (a ∷ autos) [] k tl u f p e i = absurd p
 pick_in (a ∷ autos) (x ∷ topss) zero tl u f p e i =
-    let t = p.0.some u (subst (λ (l : List ℕ). IsIn u l) (sym (some_same x tl e)) i) in
+    let t = p.0.some u (subst (λ (l : List ℕ). IsIn u l) (sym (same_Some x tl e)) i) in
     let r = some_choice autos f.1 in
     (t.0 ∷ r.0, (t.1, r.1), (t.0, refl, t.2))
 pick_in (a ∷ autos) (x ∷ topss) (suc k) tl u f p e i =
@@ -109,7 +107,7 @@ Picked autos r s k u = (ts : List Tree) × Choice autos ts
 
 pick : (autos : List Automaton) (topss : List (List ℕ)) (r s k : ℕ) (tl : List ℕ) (u : ℕ) → Every HasSome autos
     → Paired AreTopStructs autos topss → slice_get (set topss r (s ∷ [])) k ≡ Some tl → IsIn u tl → Picked autos r s k u
-pick [] [] r s k tl u f p e i = absurd (none_some tl e)
+pick [] [] r s k tl u f p e i = absurd (none-some tl e)
 pick [] (x ∷ topss) r s k tl u f p e i = absurd p
 pick (a ∷ autos) [] r s k tl u f p e i = absurd p
 pick (a ∷ autos) (x ∷ topss) zero s zero tl u f p e i =
@@ -117,12 +115,12 @@ pick (a ∷ autos) (x ∷ topss) zero s zero tl u f p e i =
     (f.0.0 ∷ r.0, (f.0.1, r.1), λ v h. (v, refl, subst (λ (z : ℕ). IsTopped z v) (sym (only tl e i)) h))
   where
     only : (tl : List ℕ) → Some (s ∷ []) ≡ Some tl → IsIn u tl → u ≡ s
-    only tl e i = elim (subst (λ (l : List ℕ). IsIn u l) (sym (some_same (s ∷ []) tl e)) i)
+    only tl e i = elim (subst (λ (l : List ℕ). IsIn u l) (sym (same_Some (s ∷ []) tl e)) i)
         [ inl d ↦ d | inr n ↦ absurd n ]
 pick (a ∷ autos) (x ∷ topss) zero s (suc k) tl u f p e i =
     let r = pick_in autos topss k tl u f.1 p.1 e i in (f.0.0 ∷ r.0, (f.0.1, r.1), λ v h. r.2)
 pick (a ∷ autos) (x ∷ topss) (suc r) s zero tl u f p e i =
-    let t = p.0.some u (subst (λ (l : List ℕ). IsIn u l) (sym (some_same x tl e)) i) in
+    let t = p.0.some u (subst (λ (l : List ℕ). IsIn u l) (sym (same_Some x tl e)) i) in
     let q = some_choice autos f.1 in
     (t.0 ∷ q.0, (t.1, q.1), λ v h. (t.0, refl, t.2))
 pick (a ∷ autos) (x ∷ topss) (suc r) s (suc k) tl u f p e i =
@@ -132,23 +130,23 @@ pick (a ∷ autos) (x ∷ topss) (suc r) s (suc k) tl u f p e i =
 not_there : (autos : List Automaton) (topss : List (List ℕ)) (ts : List Tree) (r s k : ℕ) (v w : Tree)
     → Paired AreTopStructs autos topss → Choice autos ts → slice_get (set topss r (s ∷ [])) k ≡ None
     → slice_get (set ts r v) k ≡ Some w → ⊥
-not_there [] [] [] r s k v w p c e d = none_some w d
+not_there [] [] [] r s k v w p c e d = none-some w d
 not_there [] [] (t ∷ ts) r s k v w p c e d = absurd c
 not_there [] (x ∷ topss) ts r s k v w p c e d = absurd p
 not_there (a ∷ autos) [] ts r s k v w p c e d = absurd p
 not_there (a ∷ autos) (x ∷ topss) [] r s k v w p c e d = absurd c
-not_there (a ∷ autos) (x ∷ topss) (t ∷ ts) zero s zero v w p c e d = none_some (s ∷ []) (sym e)
-not_there (a ∷ autos) (x ∷ topss) (t ∷ ts) (suc r) s zero v w p c e d = none_some x (sym e)
+not_there (a ∷ autos) (x ∷ topss) (t ∷ ts) zero s zero v w p c e d = none-some (s ∷ []) (sym e)
+not_there (a ∷ autos) (x ∷ topss) (t ∷ ts) (suc r) s zero v w p c e d = none-some x (sym e)
 not_there (a ∷ autos) (x ∷ topss) (t ∷ ts) zero s (suc k) v w p c e d = rest autos topss ts k p.1 c.1 e d
   where
     rest : (autos : List Automaton) (topss : List (List ℕ)) (ts : List Tree) (k : ℕ) → Paired AreTopStructs autos topss
         → Choice autos ts → slice_get topss k ≡ None → slice_get ts k ≡ Some w → ⊥
-    rest [] [] [] k p c e d = none_some w d
+    rest [] [] [] k p c e d = none-some w d
     rest [] [] (t ∷ ts) k p c e d = absurd c
     rest [] (x ∷ topss) ts k p c e d = absurd p
     rest (a ∷ autos) [] ts k p c e d = absurd p
     rest (a ∷ autos) (x ∷ topss) [] k p c e d = absurd c
-    rest (a ∷ autos) (x ∷ topss) (t ∷ ts) zero p c e d = none_some x (sym e)
+    rest (a ∷ autos) (x ∷ topss) (t ∷ ts) zero p c e d = none-some x (sym e)
     rest (a ∷ autos) (x ∷ topss) (t ∷ ts) (suc k) p c e d = rest autos topss ts k p.1 c.1 e d
 not_there (a ∷ autos) (x ∷ topss) (t ∷ ts) (suc r) s (suc k) v w p c e d =
     not_there autos topss ts r s k v w p.1 c.1 e d
@@ -157,10 +155,10 @@ not_there (a ∷ autos) (x ∷ topss) (t ∷ ts) (suc r) s (suc k) v w p c e d =
 pub choice_set : (autos : List Automaton) (r : ℕ) (a : Automaton) (ts : List Tree) (v : Tree)
     → slice_get autos r ≡ Some a
     → Choice autos ts → InLanguage a v → Choice autos (set ts r v) × (slice_get (set ts r v) r ≡ Some v)
-choice_set [] r a ts v e c l = absurd (none_some a e)
+choice_set [] r a ts v e c l = absurd (none-some a e)
 choice_set (x ∷ autos) r a [] v e c l = absurd c
 choice_set (x ∷ autos) zero a (t ∷ ts) v e c l =
-    ((subst (λ (y : Automaton). InLanguage y v) (sym (some_same x a e)) l, c.1), refl)
+    ((subst (λ (y : Automaton). InLanguage y v) (sym (same_Some x a e)) l, c.1), refl)
 choice_set (x ∷ autos) (suc r) a (t ∷ ts) v e c l = let k = choice_set autos r a ts v e c.1 l in ((c.0, k.0), k.1)
 
 -- ORDER AND HOOKS
@@ -200,7 +198,7 @@ order_or bs ss = elim (each_or {B = IsInOrder bs ss → ⊥} (λ (x : Slot). Has
 
 output_or : (o : Option ℕ) → (o ≡ None) ⊎ (o ≡ None → ⊥)
 output_or None = inl refl
-output_or (Some n) = inr (λ e. none_some n (sym e))
+output_or (Some n) = inr (λ e. none-some n (sym e))
 
 slot_or : (face : Face) (s : ℕ) (x : Slot) → SlotAlways face s x ⊎ (SlotAlways face s x → ⊥)
 slot_or face s (Field f) = inl tt
@@ -209,7 +207,7 @@ slot_or face s (Hook b) = here (face_of face.boxes b)
   where
     here : (o : Option BoxFace) → HookAlways s o ⊎ (HookAlways s o → ⊥)
     here None = inr (λ h. h)
-    here (Some x) = elim (number_same x.input s) [
+    here (Some x) = elim (cases_eq x.input s) [
       | inr n ↦ inr (λ h. n h.0)
       | inl e ↦ elim (output_or x.output) [ inr n ↦ inr (λ h. n h.1) | inl d ↦ inl (e, d) ]
     ]
@@ -385,29 +383,29 @@ module _ (face : Face) (autos : List Automaton) (topss : List (List ℕ)) (r s :
     where
       here : (o : Option (List ℕ)) → slice_get T k ≡ o → IsAlone t o ⊎ BadName k t
       here None e = inr (any.0, any.1, λ v l h. not_there autos topss any.0 r s k v h.0 tops any.1 e h.1)
-      here (Some tl) e = elim (each_or {B = BadName k t} (λ (u : ℕ). u ≡ t) tl (λ u i. elim (number_same u t) [
+      here (Some tl) e = elim (each_or {B = BadName k t} (λ (u : ℕ). u ≡ t) tl (λ u i. elim (cases_eq u t) [
         | inl d ↦ inl d
         | inr n ↦ inr (
             let q = pick autos topss r s k tl u full tops e i in (
               q.0,
               q.1,
               λ v l h. (let w = q.2 v (into v l).1 in
-                  n (h.2 u (subst (IsTopped u) (some_same w.0 h.0 (sym w.1 ∙ h.1)) w.2))),
+                  n (h.2 u (subst (IsTopped u) (same_Some w.0 h.0 (sym w.1 ∙ h.1)) w.2))),
             ))
       ])) [ inl h ↦ inl h | inr x ↦ inr x ]
 
   target_or : (s1 f : ℕ) (y : Symbol) (o : Option ℕ) → target_of face.shapes.structs s1 f ≡ o
       → EndAlways face T s1 (Field f) y ⊎ BadEnd s1 (Field f) y
-  target_or s1 f y None e = inr (any.0, any.1, λ v l h. none_some h.0 (sym e ∙ h.1))
+  target_or s1 f y None e = inr (any.0, any.1, λ v l h. none-some h.0 (sym e ∙ h.1))
   target_or s1 f y (Some t) e = here y
     where
       here : (y : Symbol) → EndAlways face T s1 (Field f) y ⊎ BadEnd s1 (Field f) y
       here Null = inl (t, e, tt)
       here Uninit = inl (t, e, tt)
       here Dangling = inl (t, e, tt)
-      here (Cell u ds ss) = elim (number_same u t) [
+      here (Cell u ds ss) = elim (cases_eq u t) [
         | inl d ↦ inl (t, e, d)
-        | inr n ↦ inr (any.0, any.1, λ v l h. n (h.2 ∙ sym (some_same t h.0 (sym e ∙ h.1))))
+        | inr n ↦ inr (any.0, any.1, λ v l h. n (h.2 ∙ sym (same_Some t h.0 (sym e ∙ h.1))))
       ]
       here (Ref k) = elim (alone_or k t) [
         | inl h ↦ inl (t, e, h)
@@ -415,16 +413,9 @@ module _ (face : Face) (autos : List Automaton) (topss : List (List ℕ)) (r s :
           w.0,
           w.1,
           λ v l h.
-              w.2 v l (subst (λ (z : ℕ). MayName (set w.0 r v) (Ref k) z) (sym (some_same t h.0 (sym e ∙ h.1))) h.2),
+              w.2 v l (subst (λ (z : ℕ). MayName (set w.0 r v) (Ref k) z) (sym (same_Some t h.0 (sym e ∙ h.1))) h.2),
         )
       ]
-
-  abbrev is_dangling : Symbol → Bool
-  is_dangling Null = false
-  is_dangling Uninit = false
-  is_dangling Dangling = true
-  is_dangling (Ref r) = false
-  is_dangling (Cell s ds ss) = false
 
   empty_or : (xs : List ℕ) → (xs ≡ []) ⊎ (xs ≡ [] → ⊥)
   empty_or [] = inl refl
@@ -432,9 +423,9 @@ module _ (face : Face) (autos : List Automaton) (topss : List (List ℕ)) (r s :
 
   box_or : (s1 c : ℕ) (y : Symbol) (o : Option BoxFace) → face_of face.boxes c ≡ o
       → BoxAlways T s1 o y ⊎ BadEnd s1 (Link c) y
-  box_or s1 c y None e = inr (any.0, any.1, λ v l h. none_some h.0 (sym e ∙ h.2))
-  box_or s1 c y (Some x) e = elim (number_same x.input s1) [
-    | inr n ↦ inr (any.0, any.1, λ v l h. n (ap (λ (z : BoxFace). z.input) (some_same x h.0 (sym e ∙ h.2)) ∙ h.3))
+  box_or s1 c y None e = inr (any.0, any.1, λ v l h. none-some h.0 (sym e ∙ h.2))
+  box_or s1 c y (Some x) e = elim (cases_eq x.input s1) [
+    | inr n ↦ inr (any.0, any.1, λ v l h. n (ap (λ (z : BoxFace). z.input) (same_Some x h.0 (sym e ∙ h.2)) ∙ h.3))
     | inl i ↦ elim (out x.output refl) [ inl k ↦ inl (i, k) | inr w ↦ inr w ]
   ]
     where
@@ -443,12 +434,12 @@ module _ (face : Face) (autos : List Automaton) (topss : List (List ℕ)) (r s :
         any.0,
         any.1,
         λ v l h.
-            none_some h.1 (sym f ∙ ap (λ (z : BoxFace). z.output) (some_same x h.0 (sym e ∙ h.2)) ∙ h.4),
+            none-some h.1 (sym f ∙ ap (λ (z : BoxFace). z.output) (same_Some x h.0 (sym e ∙ h.2)) ∙ h.4),
       )
       out (Some t) f = last y
         where
           target : (h0 : BoxFace) (h1 : ℕ) → face_of face.boxes c ≡ Some h0 → h0.output ≡ Some h1 → t ≡ h1
-          target h0 h1 d g = some_same t h1 (sym f ∙ ap (λ (z : BoxFace). z.output) (some_same x h0 (sym e ∙ d)) ∙ g)
+          target h0 h1 d g = same_Some t h1 (sym f ∙ ap (λ (z : BoxFace). z.output) (same_Some x h0 (sym e ∙ d)) ∙ g)
 
           last : (y : Symbol) → LinkAlways T t x.gives_out y ⊎ BadEnd s1 (Link c) y
           last Null = inr (
@@ -474,11 +465,11 @@ module _ (face : Face) (autos : List Automaton) (topss : List (List ℕ)) (r s :
               any.1,
               λ v l h. elim h.5 [
                 | inl q ↦ q
-                | inr q ↦ n (ap (λ (z : BoxFace). z.gives_out) (some_same x h.0 (sym e ∙ h.2)) ∙ q.1)
+                | inr q ↦ n (ap (λ (z : BoxFace). z.gives_out) (same_Some x h.0 (sym e ∙ h.2)) ∙ q.1)
               ],
             )
           ]
-          last (Cell u ds ss) = elim (number_same u t) [
+          last (Cell u ds ss) = elim (cases_eq u t) [
             | inl d ↦ inl d
             | inr n ↦ inr (
               any.0,
@@ -512,7 +503,7 @@ module _ (face : Face) (autos : List Automaton) (topss : List (List ℕ)) (r s :
       edge_or : (o : Rule) → IsIn o b.rules → (s1 : ℕ) (ds : List Datum) (ss : List Slot) → o.symbol ≡ Cell s1 ds ss
           → Every (EdgeAlways face T b.rules s1) (edges ss o.children) ⊎ Wrong
       edge_or o i s1 ds ss e = each_or (EdgeAlways face T b.rules s1) (edges ss o.children) (λ d j.
-          each_or (RuleAlways face T s1 d) b.rules (λ p m. elim (number_same p.state d.1) [
+          each_or (RuleAlways face T s1 d) b.rules (λ p m. elim (cases_eq p.state d.1) [
             | inr n ↦ inl (λ x. absurd (n x))
             | inl x ↦ elim (end_or s1 d.0 p.symbol) [
               | inl h ↦ inl (λ y. h)

@@ -1,7 +1,7 @@
 -- Components by the structs of the cells at the tops of their trees.
 use Rattle.std.proofs.Common.{◌≡◌, ◌↔◌, inl, inr, ℕ, Bool, true, false, true≢false, List, [], ◌∷◌, ◌++◌, set}
 use Rattle.std.proofs.Common.{Some, slice_get, refl, sym, ap, subst, ◌∙◌, IsTrue, zero, suc, ◌<◌, length, arith}
-use Rattle.std.proofs.lemmas.Option.{slice_get_within}
+use Rattle.std.proofs.lemmas.Option.{slice_get_within, same_Some}
 use Rattle.std.proofs.lemmas.Bool.{eqb-true, eq-eqb}
 use Rattle.fore_base.specs.Lists.{IsIn, Every, Paired}
 use Rattle.fore_base.specs.declared.store.Datum.{Datum}
@@ -30,13 +30,13 @@ use Rattle.fa_giving.specs.inner.Shaped.{
   ForStruct,
 }
 use Rattle.fa_giving.specs.inner.Totals.{ForAll, Adds}
-use Rattle.fa_giving.proofs.RootFields.{choice_at, some_same}
+use Rattle.fa_giving.proofs.RootFields.{choice_at}
 use Rattle.fa_giving.proofs.ShapeRules.{shaped_true, shaped_false}
 
 -- an item that is put back
 pub put_back : {X : Type 0} (xs : List X) (i : ℕ) (x y : X) → slice_get xs i ≡ Some y → set (set xs i x) i y ≡ xs
 put_back [] i x y e = refl
-put_back (z ∷ xs) zero x y e = ap (λ w. w ∷ xs) (sym (some_same z y e))
+put_back (z ∷ xs) zero x y e = ap (λ w. w ∷ xs) (sym (same_Some z y e))
 put_back (z ∷ xs) (suc i) x y e = ap (λ ws. z ∷ ws) (put_back xs i x y e)
 
 pub has_list : (autos : List Automaton) (topss : List (List ℕ)) (k : ℕ) (a : Automaton)
@@ -132,4 +132,4 @@ module _ (face : Face) (autos : List Automaton) (topss : List (List ℕ)) (r : �
               let n = g.each o s (h.all o i (subst (λ (x : ℕ). IsIn x a.roots) (sym m) j, ((out-Tree t).children, l)))
               (of_self s o.symbol ds ss (y ∙ d)) in
               every_in (λ (s : ℕ). ForStruct autos r s (IsShapedRoot face r) true) structs s k n ts c
-              (λ u f. (ds, ss, ap (λ (v : Tree). (out-Tree v).symbol) (some_same u t (sym f ∙ e)) ∙ d)) t e
+              (λ u f. (ds, ss, ap (λ (v : Tree). (out-Tree v).symbol) (same_Some u t (sym f ∙ e)) ∙ d)) t e

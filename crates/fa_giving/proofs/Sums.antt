@@ -1,7 +1,8 @@
 -- Extremes are those of trees, and add up over choices.
-use Rattle.std.proofs.Common.{◌≡◌, ◌⊎◌, inl, inr, ℕ, ◌<◌, ◌≤◌, ◌+◌, Bool, true, false, true≢false, ◌&&◌, ◌||◌, List}
+use Rattle.std.proofs.Common.{◌≡◌, ◌⊎◌, inl, inr, ℕ, ◌<◌, ◌≤◌, ◌+◌, Bool, true, false, true≢false, ◌||◌, List}
 use Rattle.std.proofs.Common.{[], ◌∷◌, cond, nat_eq, refl, sym, ap}
 use Rattle.std.proofs.Common.{subst, ◌∙◌, arith, replicate, length}
+use Rattle.std.proofs.lemmas.Bool.{and_parts, and_from}
 use Rattle.fore_base.specs.Lists.{IsIn, Every, Paired}
 use Rattle.ta_core.specs.Auto.{Automaton, IsRanked, IsRankedRule}
 use Rattle.ta_core.specs.Language.{InLanguage, IsTrim, RunOf, run, RunEach, run_none, run_more, HasTree}
@@ -247,18 +248,6 @@ module _ (bs : List BoxFace) (r f : ℕ) where
       let z = most_bound autos es (added x e) (m + gives bs r f t) k p.1 ts c.1 in
       subst (λ (k : ℕ). (k ≤ (total (added x e) es).most) ⊎ ((total (added x e) es).most ≡ 2)) (omega arith) z
 
-  and_left : (a b : Bool) → (a && b) ≡ true → a ≡ true
-  and_left true b h = refl
-  and_left false b h = absurd (true≢false (sym h))
-
-  and_right : (a b : Bool) → (a && b) ≡ true → b ≡ true
-  and_right true b h = h
-  and_right false b h = absurd (true≢false (sym h))
-
-  and_both : (a b : Bool) → a ≡ true → b ≡ true → (a && b) ≡ true
-  and_both true b h k = k
-  and_both false b h k = absurd (true≢false (sym h))
-
   none_more : (autos : List Automaton) (es : List Extremes) (x : Extremes) → Paired (AreExtremes bs r f) autos es
       → (total x es).none ≡ true → (x.none ≡ true) × ((ts : List Tree) × Choice autos ts × (all_give bs r f ts ≡ 0))
   none_more [] [] x p h = (h, ([], tt, refl))
@@ -266,9 +255,9 @@ module _ (bs : List BoxFace) (r f : ℕ) where
   none_more (a ∷ autos) [] x p h = absurd p
   none_more (a ∷ autos) (e ∷ es) x p h =
       let k = none_more autos es (added x e) p.1 h in
-      let t = p.0.none_real (and_right x.none e.none k.0) in
+      let t = p.0.none_real (and_parts x.none e.none k.0).1 in
       let u = k.1.2 in let v = t.2 in
-      (and_left x.none e.none k.0, (t.0 ∷ k.1.0, (t.1, k.1.1), omega (arith, u, v)))
+      ((and_parts x.none e.none k.0).0, (t.0 ∷ k.1.0, (t.1, k.1.1), omega (arith, u, v)))
 
   none_bound : (autos : List Automaton) (es : List Extremes) (x : Extremes) → Paired (AreExtremes bs r f) autos es
       → (ts : List Tree) → Choice autos ts → x.none ≡ true → all_give bs r f ts ≡ 0 → (total x es).none ≡ true
@@ -277,7 +266,7 @@ module _ (bs : List BoxFace) (r f : ℕ) where
   none_bound (a ∷ autos) [] x p ts c h z = absurd p
   none_bound (a ∷ autos) (e ∷ es) x p [] c h z = absurd c
   none_bound (a ∷ autos) (e ∷ es) x p (t ∷ ts) c h z =
-      none_bound autos es (added x e) p.1 ts c.1 (and_both x.none e.none h (p.0.none_all t c.0 (omega (arith, z))))
+      none_bound autos es (added x e) p.1 ts c.1 (and_from x.none e.none h (p.0.none_all t c.0 (omega (arith, z))))
       (omega (arith, z))
 
   pub totals : (autos : List Automaton) (es : List Extremes) → Paired (AreExtremes bs r f) autos es

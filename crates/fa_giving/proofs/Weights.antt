@@ -19,7 +19,9 @@ use Rattle.std.proofs.Common.{
   ap,
 }
 use Rattle.std.proofs.Common.{subst, ◌∙◌, arith, length-set}
-use Rattle.std.proofs.lemmas.Bool.{ltb-true, ltb-false, eqb-true, eq-eqb}
+use Rattle.std.proofs.lemmas.Bool.{ltb-true, ltb-false, eqb-true, eq-eqb, and_parts, and_from, or_left, or_right}
+use Rattle.std.proofs.lemmas.Bool.{cases_Bool}
+use Rattle.std.proofs.lemmas.Bool.{or_cases, or_parts}
 use Rattle.std.specs.Bool.{MatchBool}
 use Rattle.fore_base.specs.Lists.{IsIn, Every, Paired, sum_of}
 use Rattle.fore_base.specs.declared.store.Datum.{Datum}
@@ -93,38 +95,6 @@ capped_step n m a b h k = elim (capped_cases (a + b)) [
     here c (inl h) (inr k) = let e = c.0 in let l = c.1 in inr (omega (arith, e, l, k))
     here c (inr h) k = let e = c.0 in let l = c.1 in inr (omega (arith, e, l, h))
 
-or_true : (a b : Bool) → a ≡ true → (a || b) ≡ true
-or_true true b h = refl
-or_true false b h = absurd (true≢false (sym h))
-
-or_right : (a b : Bool) → b ≡ true → (a || b) ≡ true
-or_right true b h = refl
-or_right false b h = h
-
-and_both : (a b : Bool) → a ≡ true → b ≡ true → (a && b) ≡ true
-and_both true b h k = k
-and_both false b h k = absurd (true≢false (sym h))
-
-and_left : (a b : Bool) → (a && b) ≡ true → a ≡ true
-and_left true b h = refl
-and_left false b h = absurd (true≢false (sym h))
-
-and_right : (a b : Bool) → (a && b) ≡ true → b ≡ true
-and_right true b h = h
-and_right false b h = absurd (true≢false (sym h))
-
-or_cases : (a b : Bool) → (a || b) ≡ true → (a ≡ true) ⊎ (b ≡ true)
-or_cases true b h = inl refl
-or_cases false b h = inr h
-
-neither_left : (a b : Bool) → (a || b) ≡ false → a ≡ false
-neither_left true b h = absurd (true≢false h)
-neither_left false b h = refl
-
-neither_right : (a b : Bool) → (a || b) ≡ false → b ≡ false
-neither_right true b h = absurd (true≢false h)
-neither_right false b h = h
-
 follows : (a b : Bool) → (a && not b) ≡ false → a ≡ true → b ≡ true
 follows a true h k = refl
 follows true false h k = absurd (true≢false h)
@@ -138,11 +108,9 @@ Says x y = (y.leaf ≡ true → x.leaf ≡ true) × (y.most ≤ x.most) × (y.no
 settled_parts : (x y : Worth) → adds x y ≡ false → (y.leaf ≡ true → x.leaf ≡ true) × (y.most ≤ x.most)
     × (y.none ≡ true → x.none ≡ true)
 settled_parts x y h =
-    let a = neither_left (y.leaf && not x.leaf) _ h in
-    let b = neither_right (y.leaf && not x.leaf) _ h in
-    let c = neither_left (nat_lt x.most y.most) (y.none && not x.none) b in
-    let d = neither_right (nat_lt x.most y.most) (y.none && not x.none) b in
-    (follows y.leaf x.leaf a, ltb-false x.most y.most c, follows y.none x.none d)
+    let a = or_parts (y.leaf && not x.leaf) _ h in
+    let b = or_parts (nat_lt x.most y.most) (y.none && not x.none) a.1 in
+    (follows y.leaf x.leaf a.0, ltb-false x.most y.most b.0, follows y.none x.none b.1)
 
 below_most : (w : ℕ) (x : Worth) → x.most ≤ most_below w x
 below_most w x = here x.leaf
@@ -167,12 +135,12 @@ below_low w x h = here x.leaf
 -- the greater of two says both
 says_left : (x y : Worth) → Says (joined x y) x
 says_left x y = (
-  or_true x.leaf y.leaf,
+  or_left x.leaf y.leaf,
   elim (greater_cases x.most y.most) [
     | inl c ↦ (let e = c.0 in let l = c.1 in omega (arith, e, l))
     | inr c ↦ (let e = c.0 in omega (arith, e))
   ],
-  or_true x.none y.none,
+  or_left x.none y.none,
 )
 
 says_right : (x y : Worth) → Says (joined x y) y
@@ -204,8 +172,8 @@ below_grows w x y h = here y.leaf refl
 
 none_grows : (w : ℕ) (x y : Worth) → Says x y → none_below w y ≡ true → none_below w x ≡ true
 none_grows w x y h e = elim (or_cases y.none (y.leaf && nat_eq w 0) e) [
-  | inl d ↦ or_true x.none _ (h.2 d)
-  | inr d ↦ or_right x.none _ (and_both x.leaf _ (h.0 (and_left y.leaf _ d)) (and_right y.leaf _ d))
+  | inl d ↦ or_left x.none _ (h.2 d)
+  | inr d ↦ or_right x.none _ (and_from x.leaf _ (h.0 (and_parts y.leaf _ d).0) (and_parts y.leaf _ d).1)
 ]
 
 module _ (bs : List BoxFace) (r f : ℕ) where
@@ -245,7 +213,7 @@ module _ (bs : List BoxFace) (r f : ℕ) where
       | inl k ↦ inl (omega (arith, k, a))
       | inr k ↦ inr (omega (arith, k, a, b))
     ]);
-    none = λ w e. or_true x.none _ (g w e);
+    none = λ w e. or_left x.none _ (g w e);
   }
 
   bound_leaf : (t : Tree) → ((w : ℕ) → weigh bs r f t w ≡ w) → IsBound bs r f (leaf_worth true) t
@@ -313,12 +281,8 @@ module _ (bs : List BoxFace) (r f : ℕ) where
           ∙ sym (weigh_is t (Ref n) 0 e ∙ ap (λ (b : Bool). cond b 0 0) k)
       here (Cell s ds ss) e k = weigh_is t (Cell s ds ss) w e ∙ sym (weigh_is t (Cell s ds ss) 0 e)
 
-  bool_cases : (b : Bool) → (b ≡ true) ⊎ (b ≡ false)
-  bool_cases true = inl refl
-  bool_cases false = inr refl
-
   grows : (t : Tree) (w : ℕ) → W t 0 ≤ W t w
-  grows t w = elim (bool_cases (refers r (out-Tree t).symbol)) [
+  grows t w = elim (cases_Bool (refers r (out-Tree t).symbol)) [
     | inl e ↦ (let a = weigh_ref t 0 e in omega (arith, a))
     | inr e ↦ (let a = weigh_not t w e in omega (arith, a))
   ]
@@ -347,8 +311,8 @@ module _ (bs : List BoxFace) (r f : ℕ) where
     pub none_real : (x : Worth) → IsReal bs r f L x → (w : ℕ) → none_below w x ≡ true → (t : Tree) × L t × (W t w ≡ 0)
     none_real x h w n = elim (or_cases x.none (x.leaf && nat_eq w 0) n) [
       | inl e ↦ (let t = h.none e in (t.0, t.1, weigh_not t.0 w t.2 ∙ t.3))
-      | inr e ↦ (let t = h.leaf (and_left x.leaf (nat_eq w 0) e) in
-          (t.0, t.1, weigh_ref t.0 w t.2 ∙ eqb-true w 0 (and_right x.leaf (nat_eq w 0) e)))
+      | inr e ↦ (let t = h.leaf (and_parts x.leaf (nat_eq w 0) e).0 in
+          (t.0, t.1, weigh_ref t.0 w t.2 ∙ eqb-true w 0 (and_parts x.leaf (nat_eq w 0) e).1))
     ]
 
     pub joined_real : (x y : Worth) → IsReal bs r f L x → IsReal bs r f L y → IsReal bs r f L (joined x y)
@@ -408,16 +372,16 @@ module _ (bs : List BoxFace) (r f : ℕ) where
       edges_none (Field g ∷ ss) (q ∷ qs) h x e =
           let k = edges_none ss qs h.1 (with_edge bs f table x (Field g, q)) e in
           let t = none_real (RunOf rules q) (worth_at table q) (real q h.0) (weight bs f (Field g))
-          (and_right x.none _ k.0) in
+          (and_parts x.none _ k.0).1 in
           let a = t.2 in let b = k.1.2 in
-          (and_left x.none _ k.0, (t.0 ∷ k.1.0, run_more t.1 k.1.1, omega (arith, a, b)))
+          ((and_parts x.none _ k.0).0, (t.0 ∷ k.1.0, run_more t.1 k.1.1, omega (arith, a, b)))
       edges_none (Link g ∷ ss) [] h x e = (e, ([], run_none, refl))
       edges_none (Link g ∷ ss) (q ∷ qs) h x e =
           let k = edges_none ss qs h.1 (with_edge bs f table x (Link g, q)) e in
           let t = none_real (RunOf rules q) (worth_at table q) (real q h.0) (weight bs f (Link g))
-          (and_right x.none _ k.0) in
+          (and_parts x.none _ k.0).1 in
           let a = t.2 in let b = k.1.2 in
-          (and_left x.none _ k.0, (t.0 ∷ k.1.0, run_more t.1 k.1.1, omega (arith, a, b)))
+          ((and_parts x.none _ k.0).0, (t.0 ∷ k.1.0, run_more t.1 k.1.1, omega (arith, a, b)))
 
       no_leaf : (es : List (Slot × ℕ)) (x : Worth) → x.leaf ≡ false → (with_edges bs f table x es).leaf ≡ false
       no_leaf [] x h = h
@@ -545,12 +509,12 @@ module _ (bs : List BoxFace) (r f : ℕ) where
         edges_free (Field g ∷ ss) (q ∷ qs) [] p x h e = absurd p
         edges_free (Field g ∷ ss) (q ∷ qs) (t ∷ ts) p x h e =
             edges_free ss qs ts p.1 (with_edge bs f table x (Field g, q))
-            (and_both x.none _ h (p.0.none (weight bs f (Field g)) (omega (arith, e)))) (omega (arith, e))
+            (and_from x.none _ h (p.0.none (weight bs f (Field g)) (omega (arith, e)))) (omega (arith, e))
         edges_free (Link g ∷ ss) [] ts p x h e = h
         edges_free (Link g ∷ ss) (q ∷ qs) [] p x h e = absurd p
         edges_free (Link g ∷ ss) (q ∷ qs) (t ∷ ts) p x h e =
             edges_free ss qs ts p.1 (with_edge bs f table x (Link g, q))
-            (and_both x.none _ h (p.0.none (weight bs f (Link g)) (omega (arith, e)))) (omega (arith, e))
+            (and_from x.none _ h (p.0.none (weight bs f (Link g)) (omega (arith, e)))) (omega (arith, e))
 
         bound_by : (qs : List ℕ) (y : Symbol) (t : Tree) → (out-Tree t).symbol ≡ y
             → Paired (λ q t. IsBound bs r f (worth_at table q) t) qs (out-Tree t).children

@@ -18,10 +18,8 @@ use std::alloc::Global;
 use ta_core::auto::Auto;
 
 /// Whether rule B4 holds of a box over the face with these components, the first of which are its ports: for each
-/// choice
-/// of trees the ends of each cell fit, its slots stand in order, and each field of an inner cell is given once, of a
-/// port
-/// once at most.
+/// choice of trees the ends of each cell fit, its slots stand in order, and each field of an inner cell is given once,
+/// of a port once at most.
 ///
 /// # Errors
 ///

@@ -1,6 +1,5 @@
 //! Rule B4 of boxes: whether each field of each inner cell is given exactly once and no field of a port twice, slots
-//! stand
-//! in order, and edges end where they may.
+//! stand in order, and edges end where they may.
 #![tactic(auto)]
 
 mod below;

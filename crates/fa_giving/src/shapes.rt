@@ -1,8 +1,7 @@
 // Whether the ends and the order of all cells are right, from the rules of the components.
 
-ghost use Rattle.std.specs.Prelude.{◌≡◌, ◌∷◌, [], ◌<◌, ℕ, IfOk, OnOk, Some, length, slice_get, slice_set};
+ghost use Rattle.std.specs.Prelude.{◌≡◌, ◌<◌, ℕ, IfOk, OnOk, Some, length, slice_get};
 ghost use Rattle.fore_base.specs.Lists.{Every, Paired};
-ghost use Rattle.ta_core.specs.Language.{IsTrim};
 ghost use Rattle.fa_core.specs.Filled.{HasSome};
 ghost use Rattle.fa_filling.specs.Parted.{AreTopRules};
 ghost use Rattle.fa_giving.specs.inner.Shaped.{IsShapedRoot, AreTopStructs, AreCellStructs, AddsStruct, ForStruct};

@@ -6,7 +6,7 @@ ghost use Rattle.fore_base.specs.Lists.{Every};
 ghost use Rattle.ta_core.specs.Auto.{IsRankedRule};
 ghost use Rattle.ta_core.specs.Language.{HasTree};
 ghost use Rattle.fa_core.specs.Rearranged.{often};
-ghost use Rattle.fa_core.specs.Ways.{given_by, gives_out_of};
+ghost use Rattle.fa_core.specs.Ways.{given_by};
 ghost use Rattle.fa_giving.specs.inner.Worths.{weight, capped, greater, nothing, leaf_worth, worth_at, most_below};
 ghost use Rattle.fa_giving.specs.inner.Worths.{none_below, with_edge, with_edges, rule_worth, joined, adds, IsSettled};
 ghost use Rattle.fa_giving.specs.inner.Worths.{AreReal, AreWorths, Takes, rooms};
@@ -22,8 +22,7 @@ use ta_core::rounds::{Rounds, settle};
 use ta_core::symbol::{Slot, Symbol};
 
 /// What trees give at the root: whether one is the reference to it, how often one gives the field there at most,
-/// counted
-/// up to 2, and whether one that is not the reference never does.
+/// counted up to 2, and whether one that is not the reference never does.
 #[derive(Clone, Copy)]
 pub struct Worth {
     pub leaf: bool,

@@ -1,13 +1,12 @@
 // Whether two forests look alike: what takes little time to compare.
 
-ghost use Rattle.std.specs.Prelude.{◌≡◌, ◌↔◌, IsTrue};
+ghost use Rattle.std.specs.Prelude.{◌↔◌, IsTrue};
 ghost use Rattle.fore_base.specs.Lists.{Every, Paired};
 ghost use Rattle.ta_core.specs.Single.{HasOneTop};
 ghost use Rattle.fa_join.specs.inner.Differing.{LookAlike, SameTops};
 
-use fa_core::forest::{Forest, Target};
+use fa_core::forest::{Forest, are_same_data, are_same_targets};
 use fa_split::rule_at_top;
-use fore_base::store::Datum;
 use ta_core::auto::Auto;
 
 /// Whether the two forests have the same targets, data and number of roots, and the same symbols at the top.
@@ -19,18 +18,6 @@ pub fn look_alike(left: &Forest, right: &Forest) -> bool
     are_same_targets(left.vars.as_slice(), right.vars.as_slice())
         && are_same_data(left.data_vars.as_slice(), right.data_vars.as_slice())
         && have_same_tops(left.autos.as_slice(), right.autos.as_slice())
-}
-
-fn are_same_targets(left: &[Target], right: &[Target]) -> bool
-    ensures { IsTrue result ↔ (left.now ≡ right.now) }
-{
-    left == right
-}
-
-fn are_same_data(left: &[Datum], right: &[Datum]) -> bool
-    ensures { IsTrue result ↔ (left.now ≡ right.now) }
-{
-    left == right
 }
 
 /// Whether there are as many automata, with the same symbols at the top.

@@ -10,11 +10,10 @@ ghost use Rattle.fa_kept.specs.inner.Within.{CoversByNumbers};
 
 use crate::asking::Found;
 use crate::memo::Memo;
-use fa_core::forest::Target;
+use fa_core::forest::{are_same_data, are_same_targets};
 use fa_pool::{Kept, Pool};
 use fore_base::list::List;
 use fore_base::memory::Mem;
-use fore_base::store::Datum;
 use std::alloc::Global;
 use std::slice::from_ref;
 
@@ -69,18 +68,6 @@ fn look_alike(wide: &Kept, narrow: &Kept) -> bool
     are_same_targets(narrow.vars.as_slice(), wide.vars.as_slice())
         && are_same_data(narrow.data_vars.as_slice(), wide.data_vars.as_slice())
         && narrow.parts.len() == wide.parts.len()
-}
-
-fn are_same_targets(left: &[Target], right: &[Target]) -> bool
-    ensures { IsTrue result ↔ (left.now ≡ right.now) }
-{
-    left == right
-}
-
-fn are_same_data(left: &[Datum], right: &[Datum]) -> bool
-    ensures { IsTrue result ↔ (left.now ≡ right.now) }
-{
-    left == right
 }
 
 /// Whether the language of each automaton is within that in its place. Err is want of memory.

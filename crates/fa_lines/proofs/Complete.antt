@@ -126,11 +126,11 @@ datums_complete d mark rest fit other = rw (fit.0, datum_complete d.datum fit.1)
 -- Items in a row
 
 -- what stands behind the first item
-abbrev behind : List Texts → Texts
+abbrev pub behind : List Texts → Texts
 behind [] = []
 behind (y ∷ ys) = codes "," ∷ series (y ∷ ys)
 
-series_is : (x : Texts) (xs : List Texts) → series (x ∷ xs) ≡ x ++ behind xs
+pub series_is : (x : Texts) (xs : List Texts) → series (x ∷ xs) ≡ x ++ behind xs
 series_is x [] = sym (append-nil x)
 series_is x (y ∷ ys) = refl
 

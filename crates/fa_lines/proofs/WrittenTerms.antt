@@ -1,7 +1,7 @@
 -- Terms that are written so are read.
 use Rattle.std.proofs.Common.{arith, ℕ, false, List, [], ◌∷◌, ◌++◌, ◌≡◌, ◌<◌, map}
 use Rattle.std.proofs.Common.{refl, sym, ap, ◌∙◌, subst, Some, codes, length}
-use Rattle.std.proofs.Common.{append_assoc, append-nil}
+use Rattle.std.proofs.Common.{append_assoc}
 use Rattle.fore_base.specs.Lists.{Every}
 use Rattle.fa_lines.specs.declared.line.DatumText.{DatumText}
 use Rattle.fa_lines.specs.declared.line.SlotText.{SlotText}
@@ -20,6 +20,8 @@ use Rattle.fa_lines.proofs.Complete.{
   datums_complete,
   items_complete,
   enough,
+  behind,
+  series_is,
 }
 
 slot_some : (s : SlotText) → 0 < length (slot_pieces s)
@@ -42,14 +44,6 @@ slot_opens : (s : SlotText) (tail : Texts) → IsSlot s
 slot_opens (Field name q) tail fit = slots_begin name _ (no_mark name 41 fit.0 no_letter.2)
 slot_opens (Link name q) tail fit = slots_begin (codes "@") _ refl
 slot_opens (Hook name) tail fit = slots_begin (codes "@") _ refl
-
-abbrev behind : List Texts → Texts
-behind [] = []
-behind (y ∷ ys) = codes "," ∷ series (y ∷ ys)
-
-series_is : (x : Texts) (xs : List Texts) → series (x ∷ xs) ≡ x ++ behind xs
-series_is x [] = sym (append-nil x)
-series_is x (y ∷ ys) = refl
 
 slots_open : (s : SlotText) (ss : List SlotText) (tail : Texts) → IsSlot s
     → slots_of (series (map slot_pieces (s ∷ ss)) ++ tail)

@@ -31,13 +31,13 @@ use Rattle.fa_core.specs.Cells.{cell_marks, roots_in, leaf_mark}
 use Rattle.fa_core.specs.Filled.{IsFilledSpot, spots, spots_at, covers, numbered, TopsAre, TreesFilled}
 use Rattle.fa_core.specs.Filled.{given_at, IsSound}
 use Rattle.fa_core.proofs.CellMarks.{cell_signature}
-use Rattle.fa_core.proofs.Counts.{often_both}
+use Rattle.fa_core.proofs.Counts.{often_same, often_both}
+use Rattle.fa_core.proofs.NodeSpots.{spots_out, with_spots}
 use Rattle.fa_core.proofs.Numbers.{has_left, has_right, has_once}
 use Rattle.fa_core.proofs.Sorting.{ordered}
 use Rattle.fa_core.proofs.WayParts.{edges_map}
-use Rattle.fa_filling.proofs.Counting.{often_same}
 use Rattle.fa_filling.proofs.Fillings.{choice_through, choice_long}
-use Rattle.fa_filling.proofs.SpotRules.{at_edge, run_length, spots_out, with_spots}
+use Rattle.fa_filling.proofs.SpotRules.{at_edge, run_length}
 use Rattle.fa_sound.specs.inner.Doubled.{twice_from, has_twice, HasDoubled, GivesTwice, SpeaksOfDoubled}
 use Rattle.fa_sound.specs.inner.Learnt.{entry, is_there, AreWitnessed}
 use Rattle.fa_sound.specs.inner.Owned.{fields_of_mark}

@@ -42,7 +42,11 @@ pub fn agreement(alloc: Global, first: &str, trees: &[&str]) -> Result<String> {
 fn does_agree(alloc: Global, seed: &mut u32, trees: &[&str]) -> Result<bool> {
     let left = small(alloc, seed)?;
     let right = small(alloc, seed)?;
-    Ok(agrees(alloc, &left, &right, trees)? && agrees(alloc, &right, &left, trees)?)
+    agree_both_ways(alloc, &left, &right, trees)
+}
+
+fn agree_both_ways(alloc: Global, left: &Auto, right: &Auto, trees: &[&str]) -> Result<bool> {
+    Ok(agrees(alloc, left, right, trees)? && agrees(alloc, right, left, trees)?)
 }
 
 fn agrees(alloc: Global, left: &Auto, right: &Auto, trees: &[&str]) -> Result<bool> {

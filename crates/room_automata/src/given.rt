@@ -17,6 +17,11 @@ pub fn auto(alloc: Global, text: &str) -> Result<Auto> {
     }
 }
 
+// The automaton of the second text of a row.
+pub fn other_auto(alloc: Global, others: &[&str]) -> Result<Auto> {
+    auto(alloc, others.first().context("no other automaton")?)
+}
+
 fn trimmed(alloc: Global, text: &str) -> Result<Auto> {
     let auto = whole(alloc, text)?;
     Ok(trim(alloc, &auto)?)

@@ -6,46 +6,19 @@
 // - `same | TREE | TREE`: whether both are one.
 // - `top | TREE`: how the top of the tree is printed for those who look for errors.
 
-use crate::given::{auto, tree};
-use crate::making::answer_on_making;
+use crate::given::tree;
 use anyhow::{Context, Result};
 use row_automata::text_of_tree;
+use row_kit::{said, yes_or_no};
 use std::alloc::Global;
-use std::thread::Threads;
 use ta_core::accepting::accepts;
 use ta_core::auto::Auto;
-use ta_core::inhabited::is_empty;
 use ta_core::smallest::smallest_tree;
 
-// The answer to a row, by its kind.
-pub fn answer_on_languages<R: Threads + Sync>(
-    rt: &R,
-    alloc: Global,
-    head: &str,
-    texts: &[&str],
-) -> Result<String> {
-    let (first, others) = texts.split_first().context("no text")?;
-    match head {
-        "accepts" => accepted(alloc, first, others),
-        "empty" => emptiness(alloc, first),
-        "smallest" => smallest(alloc, first),
-        "same" => sameness(alloc, first, others),
-        "top" => top(alloc, first),
-        _ => answer_on_making(rt, alloc, head, first, others),
-    }
-}
-
-// yes or no.
-pub fn yes_or_no(alloc: Global, yes: bool) -> Result<String> {
-    let text = if yes { "yes" } else { "no" };
-    Ok(String::from_str(alloc, text)?)
-}
-
-fn accepted(alloc: Global, first: &str, trees: &[&str]) -> Result<String> {
-    let auto = auto(alloc, first)?;
+pub fn accepted(alloc: Global, auto: &Auto, trees: &[&str]) -> Result<String> {
     let mut text = String::new(alloc);
     for tree in trees {
-        if does_accept(alloc, &auto, tree)? {
+        if does_accept(alloc, auto, tree)? {
             put_word(&mut text, tree)?;
         }
     }
@@ -69,28 +42,26 @@ fn put_word(text: &mut String, word: &str) -> Result<()> {
     Ok(())
 }
 
-fn emptiness(alloc: Global, first: &str) -> Result<String> {
-    let auto = auto(alloc, first)?;
-    yes_or_no(alloc, is_empty(alloc, &auto)?)
-}
-
-fn smallest(alloc: Global, first: &str) -> Result<String> {
-    let auto = auto(alloc, first)?;
-    match smallest_tree(alloc, &auto) {
+pub fn smallest(alloc: Global, auto: &Auto) -> Result<String> {
+    match smallest_tree(alloc, auto) {
         Ok(Some(tree)) => text_of_tree(alloc, &tree),
-        Ok(None) => Ok(String::from_str(alloc, "none")?),
-        Err(_) => Ok(String::from_str(alloc, "no memory")?),
+        Ok(None) => said(alloc, "none"),
+        Err(_) => said(alloc, "no memory"),
     }
 }
 
-fn sameness(alloc: Global, first: &str, others: &[&str]) -> Result<String> {
+pub fn sameness(alloc: Global, first: &str, others: &[&str]) -> Result<String> {
     let other = others.first().context("no other tree")?;
-    let left = tree(alloc, first)?;
-    let right = tree(alloc, other)?;
-    yes_or_no(alloc, left.is_same(alloc, &right)?)
+    said(alloc, yes_or_no(are_same(alloc, first, other)?))
 }
 
-fn top(alloc: Global, first: &str) -> Result<String> {
+fn are_same(alloc: Global, left: &str, right: &str) -> Result<bool> {
+    let left = tree(alloc, left)?;
+    let right = tree(alloc, right)?;
+    Ok(left.is_same(alloc, &right)?)
+}
+
+pub fn top(alloc: Global, first: &str) -> Result<String> {
     let tree = tree(alloc, first)?;
     Ok(format!(in alloc; "{tree:?}")?)
 }

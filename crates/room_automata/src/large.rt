@@ -89,10 +89,11 @@ pub fn waiting(alloc: Global, count: u32) -> Result<Auto> {
 }
 
 fn over(alloc: Global, state: u32, below: u32) -> Result<Rule> {
+    let children = List::filled(alloc, below, 1)?;
     Ok(Rule {
         state,
         symbol: symbol_of(alloc, b'n')?,
-        children: List::filled(alloc, below, 1)?,
+        children,
     })
 }
 
@@ -100,9 +101,10 @@ fn over(alloc: Global, state: u32, below: u32) -> Result<Rule> {
 pub fn spine(alloc: Global, count: u32, shape: Shape) -> Result<Tree> {
     let mut tree = leaf(alloc);
     for _ in 0..count {
+        let children = beside(alloc, tree, shape)?;
         tree = Tree {
             symbol: cell(alloc, shape)?,
-            children: beside(alloc, tree, shape)?,
+            children,
         };
     }
     Ok(tree)

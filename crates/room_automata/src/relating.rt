@@ -12,74 +12,55 @@
 
 ghost use Rattle.std.specs.Prelude.{◌<◌, ◌≤◌};
 
-use crate::agreeing::agreement;
-use crate::given::auto;
-use crate::languages::yes_or_no;
-use anyhow::{Context, Result, bail};
+use crate::given::{auto, other_auto};
+use anyhow::Result;
 use par_kit::crew::Crew;
 use par_kit::gate::NoGate;
 use row_automata::{put_number, put_numbers};
+use row_kit::{said, yes_or_no};
 use std::alloc::Global;
 use std::thread::Threads;
 use ta_core::accepting::accepts;
+use ta_core::auto::Auto;
 use ta_core::tree::Tree;
 use ta_incl::{Inclusion, Pair, included, is_included};
 use ta_sim::downward::downward;
 use ta_sim::relation::Relation;
 use ta_sim::upward::{upward, upward_alone};
 
-// The answer to a row, by its kind.
-pub fn answer_on_relations<R: Threads + Sync>(
+pub fn simulation<R: Threads + Sync>(
     rt: &R,
     alloc: Global,
-    head: &str,
-    first: &str,
-    others: &[&str],
-) -> Result<String> {
-    match head {
-        "simulation 1" => simulation(rt, alloc, first, 1),
-        "simulation 64" => simulation(rt, alloc, first, 64),
-        "upward" => raised(rt, alloc, first),
-        "upward alone" => raised_alone(rt, alloc, first),
-        "agreement 300" => agreement(alloc, first, others),
-        "included" => inclusion(alloc, first, others),
-        "missing" => missing(alloc, first, others),
-        "pairs" => pairs(alloc, first, others),
-        _ => bail!("no such kind"),
-    }
-}
-
-fn simulation<R: Threads + Sync>(rt: &R, alloc: Global, first: &str, jobs: usize) -> Result<String>
+    auto: &Auto,
+    jobs: usize,
+) -> Result<String>
     requires { (1 ≤ jobs) × (jobs ≤ 64) }
 {
     let crew = Crew {
         jobs,
         gate: &NoGate,
     };
-    let auto = auto(alloc, first)?;
-    let relation = downward(rt, alloc, &auto, &crew)?;
+    let relation = downward(rt, alloc, auto, &crew)?;
     simulation_text(alloc, &relation)
 }
 
-fn raised<R: Threads + Sync>(rt: &R, alloc: Global, first: &str) -> Result<String> {
+pub fn raised<R: Threads + Sync>(rt: &R, alloc: Global, auto: &Auto) -> Result<String> {
     let crew = Crew {
         jobs: 64,
         gate: &NoGate,
     };
-    let auto = auto(alloc, first)?;
-    let down = downward(rt, alloc, &auto, &crew)?;
-    let relation = upward(rt, alloc, &auto, &down, &crew)?;
+    let down = downward(rt, alloc, auto, &crew)?;
+    let relation = upward(rt, alloc, auto, &down, &crew)?;
     simulation_text(alloc, &relation)
 }
 
-fn raised_alone<R: Threads + Sync>(rt: &R, alloc: Global, first: &str) -> Result<String> {
+pub fn raised_alone<R: Threads + Sync>(rt: &R, alloc: Global, auto: &Auto) -> Result<String> {
     let crew = Crew {
         jobs: 1,
         gate: &NoGate,
     };
-    let auto = auto(alloc, first)?;
-    let down = downward(rt, alloc, &auto, &crew)?;
-    let relation = upward_alone(alloc, &auto, &down)?;
+    let down = downward(rt, alloc, auto, &crew)?;
+    let relation = upward_alone(alloc, auto, &down)?;
     simulation_text(alloc, &relation)
 }
 
@@ -105,49 +86,46 @@ fn put_row(text: &mut String, relation: &Relation, left: u32) -> Result<()>
     Ok(())
 }
 
-fn inclusion(alloc: Global, first: &str, others: &[&str]) -> Result<String> {
-    let other = others.first().context("no other automaton")?;
-    let left = auto(alloc, first)?;
-    let right = auto(alloc, other)?;
-    yes_or_no(alloc, is_included(alloc, &left, &right)?)
+pub fn inclusion(alloc: Global, auto: &Auto, others: &[&str]) -> Result<String> {
+    let other = other_auto(alloc, others)?;
+    said(alloc, yes_or_no(is_included(alloc, auto, &other)?))
 }
 
-fn answered(alloc: Global, first: &str, others: &[&str]) -> Result<Inclusion> {
-    let other = others.first().context("no other automaton")?;
-    let left = auto(alloc, first)?;
-    let right = auto(alloc, other)?;
-    Ok(included(alloc, &left, &right)?)
+fn answered(alloc: Global, auto: &Auto, others: &[&str]) -> Result<Inclusion> {
+    let other = other_auto(alloc, others)?;
+    Ok(included(alloc, auto, &other)?)
 }
 
-fn missing(alloc: Global, first: &str, others: &[&str]) -> Result<String> {
-    match answered(alloc, first, others)? {
-        Inclusion::Yes { .. } => Ok(String::from_str(alloc, "none")?),
-        Inclusion::No { tree } => owners(alloc, &tree, first, others),
+pub fn missing(alloc: Global, auto: &Auto, others: &[&str]) -> Result<String> {
+    match answered(alloc, auto, others)? {
+        Inclusion::Yes { .. } => said(alloc, "none"),
+        Inclusion::No { tree } => owners(alloc, &tree, auto, others),
     }
 }
 
 // The letters of the automata that accept the tree.
-fn owners(alloc: Global, tree: &Tree, first: &str, others: &[&str]) -> Result<String> {
+fn owners(alloc: Global, tree: &Tree, first: &Auto, others: &[&str]) -> Result<String> {
     let mut text = String::new(alloc);
-    put_owner(alloc, &mut text, tree, 'a', first)?;
+    if accepts(alloc, first, tree)? {
+        text.push('a')?;
+    }
     for (letter, other) in ('b'..='z').zip(others) {
-        put_owner(alloc, &mut text, tree, letter, other)?;
+        if is_owner(alloc, other, tree)? {
+            text.push(letter)?;
+        }
     }
     Ok(text)
 }
 
-fn put_owner(alloc: Global, text: &mut String, tree: &Tree, letter: char, of: &str) -> Result<()> {
-    let auto = auto(alloc, of)?;
-    if accepts(alloc, &auto, tree)? {
-        text.push(letter)?;
-    }
-    Ok(())
+fn is_owner(alloc: Global, text: &str, tree: &Tree) -> Result<bool> {
+    let auto = auto(alloc, text)?;
+    Ok(accepts(alloc, &auto, tree)?)
 }
 
-fn pairs(alloc: Global, first: &str, others: &[&str]) -> Result<String> {
-    match answered(alloc, first, others)? {
+pub fn pairs(alloc: Global, auto: &Auto, others: &[&str]) -> Result<String> {
+    match answered(alloc, auto, others)? {
         Inclusion::Yes { pairs } => pairs_text(alloc, pairs.as_slice()),
-        Inclusion::No { .. } => Ok(String::from_str(alloc, "none")?),
+        Inclusion::No { .. } => said(alloc, "none"),
     }
 }
 

@@ -1,12 +1,9 @@
 // The canonical forms of the forest after all folds, and what an edge of them is unfolded into.
 
-ghost use Rattle.std.specs.Prelude.{◌≡◌};
+ghost use Rattle.std.specs.Prelude.{◌≡◌, IfOk};
 
-use crate::files::table_of;
-use crate::parts::word_at;
 use anyhow::{Result, bail};
 use fa_canon::canonical;
-use fa_core::forest::Forest;
 use fa_core::laws::tables_give;
 use fa_core::table::BoxTable;
 use fa_fold::fold_all;
@@ -16,7 +13,8 @@ use fa_unfold::{can_unfold, unfold};
 use fore_base::list::List;
 use par_kit::crew::Crew;
 use par_kit::gate::NoGate;
-use row_forests::{boxed_over, letters};
+use row_forests::{boxed_from, letters};
+use row_kit::said;
 use std::alloc::Global;
 use std::thread::Threads;
 
@@ -24,12 +22,13 @@ use std::thread::Threads;
 pub fn canonical_letters<R: Threads + Sync>(
     rt: &R,
     alloc: Global,
-    forest: &str,
-    boxes: &str,
+    forest: &Sound,
+    table: &BoxTable,
     wanted: &[&str],
-) -> Result<String> {
-    let table = table_of(alloc, boxes)?;
-    let made = canonical_over(rt, alloc, forest, &table)?;
+) -> Result<String>
+    requires { table.now.face ≡ forest.now.face }
+{
+    let made = canonical_folded(rt, alloc, forest, table)?;
     letters(alloc, made.as_slice(), wanted)
 }
 
@@ -38,29 +37,33 @@ pub fn canonical_letters<R: Threads + Sync>(
 pub fn unfolded_letters<R: Threads + Sync>(
     rt: &R,
     alloc: Global,
-    head: &str,
-    forest: &str,
-    boxes: &str,
+    forest: &Sound,
+    table: &BoxTable,
+    root: u32,
+    slot: u32,
     wanted: &[&str],
-) -> Result<String> {
-    let root = word_at(head, 1)?.parse::<u32>()?;
-    let slot = word_at(head, 2)?.parse::<u32>()?;
-    let table = table_of(alloc, boxes)?;
-    let made = canonical_over(rt, alloc, forest, &table)?;
+) -> Result<String>
+    requires { table.now.face ≡ forest.now.face }
+{
+    let form = only_form(rt, alloc, forest, table)?;
+    unfolded_at(alloc, &form, table, root, slot, wanted)
+}
+
+// The canonical form, over the faces of the table, where there is one.
+fn only_form<R: Threads + Sync>(
+    rt: &R,
+    alloc: Global,
+    forest: &Sound,
+    table: &BoxTable,
+) -> Result<Sound>
+    requires { table.now.face ≡ forest.now.face }
+    ensures { IfOk result (λ s. s.face ≡ table.now.face) }
+{
+    let made = canonical_folded(rt, alloc, forest, table)?;
     if made.len() != 1 {
         bail!("not one canonical form");
     }
-    unfolded_over(alloc, made.at(0).forest(), &table, root, slot, wanted)
-}
-
-fn canonical_over<R: Threads + Sync>(
-    rt: &R,
-    alloc: Global,
-    text: &str,
-    table: &BoxTable,
-) -> Result<List<Sound>> {
-    let forest = boxed_over(alloc, table.face(), text)?;
-    canonical_folded(rt, alloc, &forest, table)
+    boxed_from(alloc, table.face(), made.at(0).forest())
 }
 
 // The canonical forms of the forest after all folds, where none of its members leaks.
@@ -87,20 +90,6 @@ fn canonical_folded<R: Threads + Sync>(
     }
 }
 
-fn unfolded_over(
-    alloc: Global,
-    forest: &Forest,
-    table: &BoxTable,
-    root: u32,
-    slot: u32,
-    wanted: &[&str],
-) -> Result<String> {
-    match Sound::make(alloc, forest, table.face())? {
-        Some(made) => unfolded_at(alloc, &made, table, root, slot, wanted),
-        None => bail!("not sound"),
-    }
-}
-
 fn unfolded_at(
     alloc: Global,
     forest: &Sound,
@@ -115,6 +104,6 @@ fn unfolded_at(
         let made = unfold(alloc, forest, table, root, slot as usize)?;
         letters(alloc, made.as_slice(), wanted)
     } else {
-        Ok(String::from_str(alloc, "refused")?)
+        said(alloc, "refused")
     }
 }

@@ -74,15 +74,11 @@ pub fn table_of(alloc: Global, names: &str) -> Result<BoxTable> {
     for name in names.split(' ') {
         text.put(box_of(name)?.as_bytes())?;
     }
-    read(alloc, &text)
-}
-
-fn read(alloc: Global, text: &Text) -> Result<BoxTable> {
     let face = face(alloc)?;
-    read_over(alloc, text, &face.shapes)
+    read(alloc, &text, &face.shapes)
 }
 
-fn read_over(alloc: Global, text: &Text, shapes: &Shapes) -> Result<BoxTable> {
+fn read(alloc: Global, text: &Text, shapes: &Shapes) -> Result<BoxTable> {
     if text.len() > FILE_BYTES {
         bail!("a long file");
     }

@@ -2,28 +2,22 @@
 
 ghost use Rattle.std.specs.Prelude.{◌≡◌};
 
-use crate::files::table_of;
 use anyhow::Result;
 use fa_core::folds::FoldStep;
 use fa_core::table::BoxTable;
 use fa_fold::fold_all;
 use fa_sound::Sound;
-use row_forests::{boxed_over, letter, put_number};
+use row_forests::{letter, put_number};
 use std::alloc::Global;
 
 // fold: the folds in their order, each with its box, input and output, and the letter of the first wanted forest that
 // the forest after them is like.
-pub fn folds_answer(alloc: Global, forest: &str, boxes: &str, wanted: &[&str]) -> Result<String> {
-    let table = table_of(alloc, boxes)?;
-    answer_over(alloc, forest, &table, wanted)
-}
-
-fn answer_over(alloc: Global, text: &str, table: &BoxTable, wanted: &[&str]) -> Result<String> {
-    let forest = boxed_over(alloc, table.face(), text)?;
-    folded_answer(alloc, &forest, table, wanted)
-}
-
-fn folded_answer(alloc: Global, forest: &Sound, table: &BoxTable, wanted: &[&str]) -> Result<String>
+pub fn folds_answer(
+    alloc: Global,
+    forest: &Sound,
+    table: &BoxTable,
+    wanted: &[&str],
+) -> Result<String>
     requires { table.now.face ≡ forest.now.face }
 {
     let (folded, steps) = fold_all(alloc, forest, table)?;

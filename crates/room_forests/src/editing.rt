@@ -1,27 +1,22 @@
-// One thing changed in a forest with box edges: a leaf, a datum, or a cell more.
+// One thing changed in a forest: a leaf, a datum, or a cell more.
 
-ghost use Rattle.fore_base.specs.Lists.{Every};
-ghost use Rattle.fa_core.specs.Faces.{IsGiving};
+ghost use Rattle.std.specs.Prelude.{◌<◌, length};
+ghost use Rattle.fa_order.specs.Placing.{DoEdgesGive};
 ghost use Rattle.fa_edit.specs.Plain.{HasPlace, IsPlainAt};
 
 use crate::roots::{letter_of, refused};
-use crate::splitting::has_root;
 use anyhow::{Context, Result, bail};
 use fa_core::forest::Target;
 use fa_edit::{datum_of, is_plain_at, leaf_fits, leaf_of, with_cell, with_datum, with_leaf};
 use fa_sound::{Sound, component};
 use fore_base::store::Datum;
-use row_forests::{boxed, forest_of, put_targets};
+use row_forests::{forest_of, put_targets};
+use row_kit::{number_at, word_at};
 use std::alloc::Global;
 use ta_core::single::has_one_top;
 
 // boxed-leaf ROOT FIELD: the leaf in the field, or that it is not one leaf that is shown there.
-pub fn leaf_text(alloc: Global, text: &str, root: u32, field: u32) -> Result<String> {
-    let forest = boxed(alloc, text)?;
-    leaf_at(alloc, &forest, root, field)
-}
-
-fn leaf_at(alloc: Global, forest: &Sound, root: u32, field: u32) -> Result<String> {
+pub fn leaf_text(alloc: Global, forest: &Sound, root: u32, field: u32) -> Result<String> {
     if !is_plain_at(forest, root, field) {
         return refused(alloc);
     }
@@ -40,31 +35,22 @@ fn put_leaf(alloc: Global, leaf: Option<Target>) -> Result<String> {
 // boxed-set ROOT FIELD LEAF: which of the wanted forests that with the leaf in the field is.
 pub fn set_letter(
     alloc: Global,
-    text: &str,
+    forest: &Sound,
     root: u32,
     field: u32,
     leaf: &str,
     wanted: &[&str],
-) -> Result<String> {
-    let leaf = leaf_from(alloc, leaf)?;
-    let forest = boxed(alloc, text)?;
-    set_in(alloc, &forest, root, field, leaf, wanted)
-}
-
-fn set_in(
-    alloc: Global,
-    forest: &Sound,
-    root: u32,
-    field: u32,
-    leaf: Target,
-    wanted: &[&str],
 ) -> Result<String>
-    requires giving { Every IsGiving forest.now.face.boxes }
+    requires giving { DoEdgesGive forest.now.face forest.now.forest }
 {
+    let leaf = leaf_from(alloc, leaf)?;
     if !is_plain_at(forest, root, field) {
         return refused(alloc);
     }
-    set_at(alloc, forest, root, field, leaf, wanted)
+    match leaf_of(forest, root, field) {
+        Some(_) => put_at(alloc, forest, root, field, leaf, wanted),
+        None => bail!("no such field"),
+    }
 }
 
 // A leaf is written as a variable.
@@ -72,23 +58,6 @@ fn leaf_from(alloc: Global, text: &str) -> Result<Target> {
     let forest = forest_of(alloc, text)?;
     let leaf = forest.vars.as_slice().first().context("no leaf")?;
     Ok(*leaf)
-}
-
-fn set_at(
-    alloc: Global,
-    forest: &Sound,
-    root: u32,
-    field: u32,
-    leaf: Target,
-    wanted: &[&str],
-) -> Result<String>
-    requires giving { Every IsGiving forest.now.face.boxes }
-    requires at { IsPlainAt forest.now.face.shapes.structs forest.now.forest root field }
-{
-    match leaf_of(forest, root, field) {
-        Some(_) => put_at(alloc, forest, root, field, leaf, wanted),
-        None => bail!("no such field"),
-    }
 }
 
 fn put_at(
@@ -99,63 +68,39 @@ fn put_at(
     leaf: Target,
     wanted: &[&str],
 ) -> Result<String>
-    requires giving { Every IsGiving forest.now.face.boxes }
+    requires giving { DoEdgesGive forest.now.face forest.now.forest }
     requires at { IsPlainAt forest.now.face.shapes.structs forest.now.forest root field }
     requires has { HasPlace forest.now.forest root field }
 {
     if !leaf_fits(forest, root, field, leaf) {
         return refused(alloc);
     }
-    let made = with_leaf(alloc, forest, root, field, leaf)?;
-    letter_of(alloc, &made, wanted)
+    letter_of(alloc, with_leaf(alloc, forest, root, field, leaf)?, wanted)
 }
 
 // boxed-dated ROOT FIELD DATUM: which of the wanted forests that with the datum in the field is.
 pub fn dated_letter(
     alloc: Global,
-    text: &str,
-    root: u32,
-    field: u32,
-    datum: &str,
-    wanted: &[&str],
-) -> Result<String> {
-    let number = datum.parse::<u8>()?;
-    let forest = boxed(alloc, text)?;
-    dated_in(alloc, &forest, root, field, number, wanted)
-}
-
-fn dated_in(
-    alloc: Global,
     forest: &Sound,
     root: u32,
-    field: u32,
-    number: u8,
+    head: &str,
     wanted: &[&str],
-) -> Result<String> {
-    match dated(alloc, forest, root, field, number)? {
-        Some(made) => letter_of(alloc, &made, wanted),
-        None => refused(alloc),
-    }
-}
-
-fn dated(
-    alloc: Global,
-    forest: &Sound,
-    root: u32,
-    field: u32,
-    number: u8,
-) -> Result<Option<Sound>> {
-    if !has_root(forest, root) {
-        bail!("no such root");
-    }
+) -> Result<String>
+    requires { root < length forest.now.forest.autos }
+{
+    let field = number_at(head, 2)?;
+    let number = word_at(head, 3)?.parse::<u8>()?;
     if !has_one_top(component(forest.forest(), root)) {
-        return Ok(None);
+        return refused(alloc);
     }
     if number > 15 {
         bail!("no datum");
     }
     match datum_of(forest, root, field) {
-        Some(_) => Ok(Some(with_datum(alloc, forest, root, field, Datum::Known(number))?)),
+        Some(_) => {
+            let made = with_datum(alloc, forest, root, field, Datum::Known(number))?;
+            letter_of(alloc, made, wanted)
+        }
         None => bail!("no such field"),
     }
 }
@@ -163,22 +108,16 @@ fn dated(
 // boxed-added VARIABLE STRUCT: which of the wanted forests that with a new cell, at which the variable is, is.
 pub fn added_letter(
     alloc: Global,
-    text: &str,
+    forest: &Sound,
     to: u32,
     shape: u32,
     wanted: &[&str],
 ) -> Result<String> {
-    let forest = boxed(alloc, text)?;
-    added_to(alloc, &forest, to, shape, wanted)
-}
-
-fn added_to(alloc: Global, forest: &Sound, to: u32, shape: u32, wanted: &[&str]) -> Result<String> {
     if (to as usize) >= forest.forest().vars.len() {
         bail!("no such variable");
     }
     if (shape as usize) >= forest.face().shapes.structs.len() {
         bail!("no such struct");
     }
-    let made = with_cell(alloc, forest, to, shape)?;
-    letter_of(alloc, &made, wanted)
+    letter_of(alloc, with_cell(alloc, forest, to, shape)?, wanted)
 }

@@ -1,30 +1,32 @@
-// Roots put into the order of the walk, and components reduced.
+// Roots put into the order of the walk, components reduced, and whether forests are canonical.
 
 ghost use Rattle.fa_order.specs.Placing.{DoEdgesGive};
 
 use crate::roots::shown;
 use anyhow::{Result, bail};
 use fa_merge::leaking_root;
-use fa_order::{has_root_kinds, place_roots, reduce_forest};
+use fa_order::{has_root_kinds, is_canonical, place_roots, reduce_forest};
 use fa_sound::Sound;
 use par_kit::crew::Crew;
 use par_kit::gate::NoGate;
-use row_forests::{put_number, sound};
+use row_forests::put_number;
+use row_kit::yes_or_no;
 use std::alloc::Global;
 use std::thread::Threads;
 use ta_core::auto::Auto;
 
-// placed: the forest with its roots in the order of the walk.
-pub fn placed(alloc: Global, text: &str) -> Result<String> {
-    let forest = sound(alloc, text)?;
-    placed_text(alloc, &forest)
+// canonical?: whether the roots are those of a canonical forest, and whether the forest is canonical.
+pub fn decided(alloc: Global, forest: &Sound) -> Result<String> {
+    let is_rooted = yes_or_no(has_root_kinds(alloc, forest)?);
+    let is_canonical = yes_or_no(is_canonical(alloc, forest)?);
+    Ok(format!(in alloc; "{is_rooted} {is_canonical}")?)
 }
 
-fn placed_text(alloc: Global, forest: &Sound) -> Result<String>
+// placed: the forest with its roots in the order of the walk.
+pub fn placed(alloc: Global, forest: &Sound) -> Result<String>
     requires { DoEdgesGive forest.now.face forest.now.forest }
 {
-    let made = place(alloc, forest)?;
-    shown(alloc, &made)
+    shown(alloc, place(alloc, forest)?)
 }
 
 fn place(alloc: Global, forest: &Sound) -> Result<Sound>
@@ -41,12 +43,7 @@ fn place(alloc: Global, forest: &Sound) -> Result<Sound>
 }
 
 // reduced: how many states the reduced components have.
-pub fn reduced<R: Threads + Sync>(rt: &R, alloc: Global, text: &str) -> Result<String> {
-    let forest = sound(alloc, text)?;
-    reduced_counts(rt, alloc, &forest)
-}
-
-fn reduced_counts<R: Threads + Sync>(rt: &R, alloc: Global, forest: &Sound) -> Result<String> {
+pub fn reduced<R: Threads + Sync>(rt: &R, alloc: Global, forest: &Sound) -> Result<String> {
     let crew = Crew {
         jobs: 2,
         gate: &NoGate,

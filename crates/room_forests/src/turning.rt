@@ -9,7 +9,7 @@ use ta_core::auto::{Auto, Rule};
 use ta_core::symbol::Symbol;
 
 // The forest in its other form.
-pub fn varied(alloc: Global, forest: &Forest) -> Result<Forest> {
+pub fn turned(alloc: Global, forest: &Forest) -> Result<Forest> {
     let roots = u32::try_from(forest.autos.len())?;
     let autos = turned_autos(alloc, forest.autos.as_slice(), roots)?;
     let vars = turned_targets(alloc, forest.vars.as_slice(), roots)?;

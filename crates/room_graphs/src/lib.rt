@@ -8,7 +8,7 @@ mod programs;
 mod running;
 
 use crate::edges::{put_edges, put_prefixes, put_sizes};
-use crate::running::{put_alike, put_graph_run, put_replay, put_run, put_steps};
+use crate::running::{put_alike, put_run, put_steps};
 use anyhow::{Context, Result, bail};
 use c_types::mode::MallocMode;
 use fore_base::text::Text;
@@ -46,11 +46,8 @@ fn put_course(
     body: &[u8],
 ) -> Result<()> {
     match kind {
-        "run" => put_run(alloc, out, mode, words, body),
-        "graph_run" => put_graph_run(alloc, out, mode, words, body),
-        "replay" => put_replay(alloc, out, mode, words, body),
         "steps" => put_steps(alloc, out, mode, words, body),
-        _ => bail!("no such kind"),
+        _ => put_run(alloc, out, mode, kind, words, body),
     }
 }
 

@@ -66,17 +66,34 @@ fn digit(letter: u8) -> Option<u8> {
     }
 }
 
-/// run: how the run of the program of a body comes out.
+/// run, graph_run, replay: how the run of the program of a body comes out, how that of its graph does, and what a
+/// replay of the program finds.
 pub fn put_run(
     alloc: Global,
     out: &mut Text,
     mode: MallocMode,
+    kind: &str,
     words: &str,
     body: &[u8],
 ) -> Result<()> {
     let course = course_of(alloc, words)?;
-    let outcome = outcome_of(alloc, mode, body, &course)?;
-    put_outcome(out, outcome)?;
+    put_on(alloc, out, mode, kind, body, &course)
+}
+
+fn put_on(
+    alloc: Global,
+    out: &mut Text,
+    mode: MallocMode,
+    kind: &str,
+    body: &[u8],
+    course: &Course,
+) -> Result<()> {
+    match kind {
+        "run" => put_outcome(out, outcome_of(alloc, mode, body, course)?)?,
+        "graph_run" => put_outcome(out, graph_outcome_of(alloc, mode, body, course)?)?,
+        "replay" => put_found(out, found_by(alloc, mode, body, course)?)?,
+        _ => bail!("no such kind"),
+    }
     Ok(())
 }
 
@@ -84,20 +101,6 @@ fn outcome_of(alloc: Global, mode: MallocMode, body: &[u8], course: &Course) -> 
     let program = program_of(alloc, RUN_HEAD, body)?;
     let choices = course.choices.as_slice();
     Ok(run(alloc, &program, mode, choices, course.limit)?)
-}
-
-/// graph_run: how the run of the graph of a body comes out.
-pub fn put_graph_run(
-    alloc: Global,
-    out: &mut Text,
-    mode: MallocMode,
-    words: &str,
-    body: &[u8],
-) -> Result<()> {
-    let course = course_of(alloc, words)?;
-    let outcome = graph_outcome_of(alloc, mode, body, &course)?;
-    put_outcome(out, outcome)?;
-    Ok(())
 }
 
 fn graph_outcome_of(
@@ -108,20 +111,6 @@ fn graph_outcome_of(
 ) -> Result<Outcome> {
     let graph = graph_of(alloc, mode, body)?;
     Ok(graph_run(alloc, &graph, course.choices.as_slice(), course.limit)?)
-}
-
-/// replay: what a replay of the program of a body finds.
-pub fn put_replay(
-    alloc: Global,
-    out: &mut Text,
-    mode: MallocMode,
-    words: &str,
-    body: &[u8],
-) -> Result<()> {
-    let course = course_of(alloc, words)?;
-    let found = found_by(alloc, mode, body, &course)?;
-    put_found(out, found)?;
-    Ok(())
 }
 
 fn found_by(alloc: Global, mode: MallocMode, body: &[u8], course: &Course) -> Result<Replay> {

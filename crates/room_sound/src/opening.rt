@@ -1,39 +1,39 @@
-// Box edges opened for a field of a root, over the boxes of the second text.
+// A box edge of a root replaced by the inside of its box, and box edges opened for a field of a root.
 
 ghost use Rattle.std.specs.Prelude.{◌≡◌};
 
-use crate::boxed::table_of;
-use crate::unfolding::number_at;
-use anyhow::{Context, Result};
+use anyhow::Result;
 use fa_core::table::BoxTable;
 use fa_opening::{can_open, open_edges};
 use fa_sound::Sound;
-use row_forests::{boxed_over, letters};
+use fa_unfold::{can_unfold, unfold};
+use row_forests::letters;
+use row_kit::said;
 use std::alloc::Global;
+
+// unfolded ROOT SLOT: which of the forests behind the boxes those are in which the edge at the slot of the root is
+// replaced, in the order of the wanted ones.
+pub fn unfolded(
+    alloc: Global,
+    forest: &Sound,
+    table: &BoxTable,
+    root: u32,
+    slot: u32,
+    wanted: &[&str],
+) -> Result<String>
+    requires { table.now.face ≡ forest.now.face }
+{
+    if can_unfold(forest, root, slot as usize) {
+        let made = unfold(alloc, forest, table, root, slot as usize)?;
+        letters(alloc, made.as_slice(), wanted)
+    } else {
+        said(alloc, "refused")
+    }
+}
 
 // opened ROOT FIELD: which of the forests behind the boxes those are in which no box edge covers the field of the root
 // or gives it to the root, in the order of the wanted ones.
-pub fn opened(alloc: Global, head: &str, forest: &str, texts: &[&str]) -> Result<String> {
-    let root = number_at(head, 1)?;
-    let field = number_at(head, 2)?;
-    let (_, wanted) = texts.split_first().context("no boxes")?;
-    let table = table_of(alloc, texts)?;
-    opened_over(alloc, forest, &table, root, field, wanted)
-}
-
-fn opened_over(
-    alloc: Global,
-    text: &str,
-    table: &BoxTable,
-    root: u32,
-    field: u32,
-    wanted: &[&str],
-) -> Result<String> {
-    let forest = boxed_over(alloc, table.face(), text)?;
-    opened_at(alloc, &forest, table, root, field, wanted)
-}
-
-fn opened_at(
+pub fn opened(
     alloc: Global,
     forest: &Sound,
     table: &BoxTable,
@@ -47,6 +47,6 @@ fn opened_at(
         let made = open_edges(alloc, forest, table, root, field)?;
         letters(alloc, made.as_slice(), wanted)
     } else {
-        Ok(String::from_str(alloc, "refused")?)
+        said(alloc, "refused")
     }
 }

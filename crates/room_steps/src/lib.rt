@@ -2,7 +2,7 @@
 //! forest looks after one thing was changed.
 #![tactic(auto)]
 
-mod boxed;
+mod boxes;
 mod changes;
 mod edges;
 mod editing;
@@ -12,7 +12,7 @@ mod stepping;
 mod telling;
 
 use anyhow::{Result, bail};
-pub use boxed::table_of;
+pub use boxes::table_of;
 pub use edges::edge;
 use std::alloc::Global;
 use std::thread::Threads;
@@ -27,7 +27,7 @@ pub fn answer<R: Threads + Sync>(
     let (kind, what) = head.split_once(' ').unwrap_or((head, ""));
     match kind {
         "step" => stepping::step(rt, alloc, what, texts),
-        "boxed-step" => boxed::boxed_step(rt, alloc, what, texts),
+        "boxed-step" => stepping::boxed_step(rt, alloc, what, texts),
         "join" => joining::join(rt, alloc, what, texts),
         "edit" => editing::edit(alloc, texts),
         _ => bail!("no such kind"),

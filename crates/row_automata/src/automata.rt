@@ -6,7 +6,6 @@ use anyhow::{Context, Result};
 use fore_base::list::List;
 use std::alloc::Global;
 use ta_core::auto::{Auto, Rule};
-use ta_core::symbol::Symbol;
 
 /// The automaton of the text.
 ///
@@ -57,23 +56,29 @@ fn rule(alloc: Global, word: &str) -> Result<Rule> {
 fn spelled_rule(alloc: Global, front: &str, children: &[u8]) -> Result<Rule> {
     let (state, cell) = front.split_once('[').context("no bracket is opened")?;
     let state = state.as_bytes().first().context("no state")?;
+    let (state, children) = ends(alloc, *state, children)?;
     let symbol = spelled_symbol(alloc, cell)?;
-    rule_over(alloc, *state, symbol, children)
-}
-
-fn lettered_rule(alloc: Global, word: &[u8]) -> Result<Rule> {
-    let (state, rest) = word.split_first().context("no state")?;
-    let (letter, children) = rest.split_first().context("no symbol")?;
-    let symbol = symbol_of(alloc, *letter)?;
-    rule_over(alloc, *state, symbol, children)
-}
-
-fn rule_over(alloc: Global, state: u8, symbol: Symbol, children: &[u8]) -> Result<Rule> {
-    let state = digit(state).context("a state is no digit")?;
-    let children = numbers(alloc, children)?;
     Ok(Rule {
         state,
         symbol,
         children,
     })
+}
+
+fn lettered_rule(alloc: Global, word: &[u8]) -> Result<Rule> {
+    let (state, rest) = word.split_first().context("no state")?;
+    let (letter, children) = rest.split_first().context("no symbol")?;
+    let (state, children) = ends(alloc, *state, children)?;
+    let symbol = symbol_of(alloc, *letter)?;
+    Ok(Rule {
+        state,
+        symbol,
+        children,
+    })
+}
+
+// The state and the children of a rule.
+fn ends(alloc: Global, state: u8, children: &[u8]) -> Result<(u32, List<u32>)> {
+    let state = digit(state).context("a state is no digit")?;
+    Ok((state, numbers(alloc, children)?))
 }

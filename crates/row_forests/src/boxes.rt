@@ -7,6 +7,7 @@ ghost use Rattle.fa_core.specs.Faces.{IsGiving};
 use crate::forests::{face, forest_of};
 use anyhow::{Result, bail};
 use fa_core::faces::{BoxFace, Face};
+use fa_core::forest::Forest;
 use fa_sound::Sound;
 use fore_base::list::List;
 use std::alloc::Global;
@@ -33,7 +34,19 @@ pub fn boxed_over(alloc: Global, face: &Face, text: &str) -> Result<Sound>
     ensures { IfOk result (λ s. s.face ≡ face.now) }
 {
     let forest = forest_of(alloc, text)?;
-    match Sound::make(alloc, &forest, face)? {
+    boxed_from(alloc, face, &forest)
+}
+
+/// The sound forest of this one, which may have box edges, over this face.
+///
+/// # Errors
+///
+/// A forest that is not sound, and want of memory.
+pub fn boxed_from(alloc: Global, face: &Face, forest: &Forest) -> Result<Sound>
+    ensures forest { IfOk result (λ s. s.forest ≡ forest.now) }
+    ensures face { IfOk result (λ s. s.face ≡ face.now) }
+{
+    match Sound::make(alloc, forest, face)? {
         Some(made) => Ok(made),
         None => bail!("not sound"),
     }
@@ -50,8 +63,8 @@ pub fn boxed_over(alloc: Global, face: &Face, text: &str) -> Result<Sound>
 pub fn face_with_boxes(alloc: Global) -> Result<Face>
     ensures { IfOk result (λ face. Every IsGiving face.boxes) }
 {
-    let plain = face(alloc)?;
     let boxes = boxes(alloc)?;
+    let plain = face(alloc)?;
     Ok(Face {
         shapes: plain.shapes,
         boxes,

@@ -4,6 +4,7 @@ ghost use Rattle.std.specs.Prelude.{◌≡◌, IfOk};
 ghost use Rattle.fore_base.specs.Lists.{Every};
 ghost use Rattle.fa_core.specs.Boxless.{HasNoBoxes};
 
+use crate::boxes::boxed_from;
 use anyhow::{Context, Result, bail};
 use fa_core::faces::Face;
 use fa_core::forest::{Forest, Target};
@@ -142,10 +143,8 @@ pub fn sound_from(alloc: Global, face: &Face, forest: &Forest) -> Result<Sound>
     if !have_no_boxes(forest.autos.as_slice()) {
         bail!("a box edge");
     }
-    match Sound::make(alloc, forest, face)? {
-        Some(made) => Ok(made),
-        None => bail!("not sound"),
-    }
+    let made = boxed_from(alloc, face, forest)?;
+    Ok(made)
 }
 
 /// The forest of the text.

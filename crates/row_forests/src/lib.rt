@@ -16,7 +16,7 @@ mod comparing;
 mod forests;
 mod printing;
 
-pub use boxes::{boxed, boxed_over, face_with_boxes};
+pub use boxes::{boxed, boxed_from, boxed_over, face_with_boxes};
 pub use comparing::{auto_letters, have_same_trees, is_like, letter, letters, letters_in_order};
 pub use forests::{face, face_of, forest_of, sound, sound_from, sound_over, sounds_over};
 pub use printing::{put_data, put_forest, put_targets};

@@ -7,5 +7,7 @@
 #![tactic(auto)]
 
 mod rows;
+mod words;
 
 pub use rows::{Answers, answer_files};
+pub use words::{number_at, said, word_at, yes_or_no};

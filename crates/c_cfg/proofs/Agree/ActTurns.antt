@@ -106,17 +106,17 @@ module _ (p : Program) (typed : is_typed p ≡ true) (choice : ℕ) (s : Store) 
         plainly false (free_row (length p.vars) (length p.data_vars) q)
         (freed_plain (length p.vars) (length p.data_vars) q)
         ∙ free_passes p choice s sound whole q fits ∙ done_turn Halted (free_path s q) is
-    act_passes Error is fits = plainly false (One (Stop true) ∷ []) (refl, tt)
-    act_passes Halt is fits = plainly false (One (Stop false) ∷ []) (refl, tt)
-    act_passes (LeaveAct f value) is fits = plainly false (One (Stop false) ∷ []) (refl, tt)
+    act_passes Error is fits = plainly false (One (Stop true) ∷ []) ((refl, refl), tt)
+    act_passes Halt is fits = plainly false (One (Stop false) ∷ []) ((refl, refl), tt)
+    act_passes (LeaveAct f value) is fits = plainly false (One (Stop false) ∷ []) ((refl, refl), tt)
     act_passes (Return operand) is fits =
         plainly false (return_row (length p.vars) (length p.data_vars) operand)
         (returned_plain (length p.vars) (length p.data_vars) operand)
         ∙ return_passes p choice s sound whole operand fits
         ∙ return_turn s (look_at s operand) (look_same s operand)
-    act_passes Break is fits = plainly false (One (Kill (closed_ptrs is) (closed_datums is)) ∷ []) (refl, tt)
+    act_passes Break is fits = plainly false (One (Kill (closed_ptrs is) (closed_datums is)) ∷ []) ((refl, refl), tt)
         ∙ kill_passes (closed_ptrs is) (closed_datums is) Halted (after_again is)
-    act_passes Continue is fits = plainly false (One (Kill (closed_ptrs is) (closed_datums is)) ∷ []) (refl, tt)
+    act_passes Continue is fits = plainly false (One (Kill (closed_ptrs is) (closed_datums is)) ∷ []) ((refl, refl), tt)
         ∙ kill_passes (closed_ptrs is) (closed_datums is) Halted (from_again is)
 
 -- where a turn goes on, it goes on with these items, and with a store that does not leak

@@ -27,7 +27,7 @@ plain_takes : (takes : Bool) (ls : List Link) → PlainAs takes ls → TakesAs t
 plain_takes false ls h = plain_ones ls h
 plain_takes true [] h = absurd h
 plain_takes true (One i ∷ ls) h = absurd h
-plain_takes true (Two i j ∷ ls) h = plain_ones ls h
+plain_takes true (Two i j ∷ ls) h = plain_ones ls h.2
 
 in_mode : (mode : MallocMode) (takes : Bool) (ls : List Link) → PlainAs takes ls → TakesAs takes (links_in mode ls)
 in_mode mode takes ls h = subst (TakesAs takes) (sym (stays mode takes ls h)) (plain_takes takes ls h)
@@ -70,10 +70,12 @@ module _ (nv nd : ℕ) where
   act_row_takes mode (SetData to from) is =
       in_mode mode (data_rhs_takes from) (data_row nv nd to from) (set_data_plain nv nd to from)
   act_row_takes mode (Free q) is = in_mode mode false (free_row nv nd q) (freed_plain nv nd q)
-  act_row_takes mode Error is = in_mode mode false (One (Stop true) ∷ []) (refl, tt)
-  act_row_takes mode Halt is = in_mode mode false (One (Stop false) ∷ []) (refl, tt)
-  act_row_takes mode (LeaveAct f value) is = in_mode mode false (One (Stop false) ∷ []) (refl, tt)
+  act_row_takes mode Error is = in_mode mode false (One (Stop true) ∷ []) ((refl, refl), tt)
+  act_row_takes mode Halt is = in_mode mode false (One (Stop false) ∷ []) ((refl, refl), tt)
+  act_row_takes mode (LeaveAct f value) is = in_mode mode false (One (Stop false) ∷ []) ((refl, refl), tt)
   act_row_takes mode (Return operand) is =
       in_mode mode false (return_row nv nd operand) (returned_plain nv nd operand)
-  act_row_takes mode Break is = in_mode mode false (One (Kill (closed_ptrs is) (closed_datums is)) ∷ []) (refl, tt)
-  act_row_takes mode Continue is = in_mode mode false (One (Kill (closed_ptrs is) (closed_datums is)) ∷ []) (refl, tt)
+  act_row_takes mode Break is =
+      in_mode mode false (One (Kill (closed_ptrs is) (closed_datums is)) ∷ []) ((refl, refl), tt)
+  act_row_takes mode Continue is =
+      in_mode mode false (One (Kill (closed_ptrs is) (closed_datums is)) ∷ []) ((refl, refl), tt)

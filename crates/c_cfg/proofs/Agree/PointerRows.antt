@@ -21,7 +21,7 @@ use Rattle.c_types.specs.Program.{Program, is_target, both_targets, path_target,
 use Rattle.c_types.specs.Fits.{PointsTo}
 use Rattle.c_types.specs.Steps.{read, write_path, blank, makes_cell, assign_new, assign, free_path}
 use Rattle.c_types.specs.declared.program.PtrRhs.{PtrRhs}
-use Rattle.c_types.proofs.ItemsTyped.{has_shapes_typed, has_vars_typed}
+use Rattle.c_types.proofs.WellTyped.{has_shapes_typed, has_vars_typed}
 use Rattle.c_types.specs.declared.program.PtrRhs.TheVariants.{Path as RhsPath, Null as RhsNull, New as RhsNew}
 use Rattle.c_types.proofs.CellsFit.{IsAt}
 use Rattle.c_types.proofs.Fitting.{PathLeads, path_leads, path_below, Sound, grown_sound, grown_points}

@@ -22,13 +22,14 @@ use Rattle.c_types.specs.declared.program.Stmt.TheOpen.{Do as Do-F, Branch as Br
 use Rattle.c_types.specs.declared.program.Stmt.TheOpen.{DoWhile as DoWhile-F, For as For-F, Group as Group-F}
 use Rattle.c_types.specs.declared.program.Stmt.TheOpen.{Call as Call-F}
 use Rattle.c_types.specs.Bodies.{in_turn, act_names, arg_names, dest_names, maybe_names, cond_names, stmt_names_step}
-use Rattle.c_types.specs.Bodies.{stmt_names, body_names, calls_step, stmt_calls, body_calls, calls_of, keeps_to_own}
+use Rattle.c_types.specs.Bodies.{stmt_names, body_names, calls_step, stmt_calls, body_calls, calls_of}
 use Rattle.c_types.specs.Program.{Program, Spot, Outside, InNext, body_of, is_in_body, all_below, act_typed, cond_typed}
-use Rattle.c_types.specs.Program.{each_typed, stmt_typed_step, stmt_typed, body_typed, bodies_typed, is_typed}
+use Rattle.c_types.specs.Program.{each_typed, stmt_typed_step, stmt_typed, is_typed}
 use Rattle.c_types.specs.Control.{Items, Done, Loop, Again, DoAgain, Exit, ◌then◌, round, do_round, after_again}
 use Rattle.c_types.specs.Control.{test_of, all_before, closes, act_items, leave_items, call_items, items_step, items_by}
 use Rattle.c_types.specs.Control.{body_within, start_of}
-use Rattle.c_types.proofs.ItemsTyped.{has_body_typed, has_bodies_typed}
+use Rattle.c_types.proofs.DeepCalls.{called_there}
+use Rattle.c_types.proofs.WellTyped.{has_body_typed, own_body}
 use Rattle.c_cfg.proofs.Landing.{Each}
 use Rattle.c_cfg.proofs.Calls.OpenCalls.{open_vars, from_open}
 use Rattle.c_cfg.proofs.Calls.Standing.{IsStanding, closes_stand, all_stand, within_stands}
@@ -320,39 +321,15 @@ module _ (p : Program) (typed : is_typed p ≡ true) where
 
   -- Bodies
 
-  abbrev body_fits : Option ℕ → Func → Bool
-  body_fits home g = body_typed p.shapes.structs p.vars (length p.data_vars) p.funcs home g.body
-
-  abbrev func_bodies : ℕ → List Func → Bool
-  func_bodies = bodies_typed p.shapes.structs p.vars (length p.data_vars) p.funcs
-
-  -- each function's body is typed at some number, and names its own variables
-  body_at : (n : ℕ) (fs : List Func) (g : Func) → func_bodies n fs ≡ true → IsIn g fs → (home : Option ℕ)
-      × (body_fits home g ≡ true) × (keeps_to_own g ≡ true)
-  body_at n [] g e i = absurd i
-  body_at n (f ∷ fs) g e i =
-      let both = and_parts (body_fits (Some n) f && keeps_to_own f) (func_bodies (suc n) fs) e in
-      let parts = and_parts (body_fits (Some n) f) (keeps_to_own f) both.0 in
-      elim i [
-        | inl is ↦ (Some n, ap (body_fits (Some n)) is ∙ parts.0, ap keeps_to_own is ∙ parts.1)
-        | inr j ↦ body_at (suc n) fs g both.1 j
-      ]
-
-  called_there : (funcs : List Func) (f : ℕ) (g : Func) → slice_get funcs f ≡ Some g
-      → body_calls g.body ≡ called_by (calls_of funcs) f
-  called_there [] f g e = cc
-  called_there (h ∷ funcs) zero g e = let same : g ≡ h = cc in ap (λ (k : Func). body_calls k.body) same
-  called_there (h ∷ funcs) (suc f) g e = called_there funcs f g e
-
   within_homed : (n : ℕ) → InsideHomed (body_within p.funcs n)
   within_homed zero f g got r q active k = k
   within_homed (suc n) f g got r q active k =
       let there : IsIn g p.funcs = in_at p.funcs f g got in
-      let at = body_at 0 p.funcs g (has_bodies_typed p typed) there in
+      let at = own_body p typed g there in
       whole_homed (body_within p.funcs n) (within_stands p.funcs n) (within_homed n) (open_vars 0 (r then q)) at.0
       g.body r q at.1 (λ x i a. active.own x (named_own p typed g x there at.2 i a))
       (λ h i k got'. body_may (open_vars 0 (r then q)) f h g k got active
-      (subst (IsIn h) (called_there p.funcs f g got) i) got') refl k
+      (subst (IsIn h) (sym (called_there p.funcs f g got)) i) got') refl k
 
   pub start_homed : Each (Homed p) (start_of p) Done
   start_homed =

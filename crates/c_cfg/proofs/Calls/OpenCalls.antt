@@ -5,7 +5,7 @@ use Rattle.c_types.specs.declared.program.VarRef.{VarRef}
 use Rattle.c_types.specs.Control.{Items, Done, Do, Close, If, Loop, Again, DoLoop, DoAgain, Test, Ask, Not, Both}
 use Rattle.c_types.specs.Control.{Either, Enter, Leave, Exit, ◌then◌, ask, after_again, from_again, exit_after}
 use Rattle.c_cfg.specs.Places.{remark}
-use Rattle.c_cfg.proofs.Opening.{then_then}
+use Rattle.c_types.proofs.Standing.{then_then}
 
 -- n calls are still to come
 abbrev pub open_vars : ℕ → Items → List VarRef

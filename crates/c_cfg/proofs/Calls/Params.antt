@@ -15,7 +15,7 @@ use Rattle.c_types.specs.declared.program.Func.{Func}
 use Rattle.c_types.specs.Bodies.{same_var, is_among, all_among, all_different, maybe_names, result_var, own_vars}
 use Rattle.c_types.specs.Bodies.{func_vars, calls_of, body_names, body_declares, keeps_to_own, keeps_to_main}
 use Rattle.c_types.specs.Program.{Program, bodies_typed, var_typed, is_typed}
-use Rattle.c_types.proofs.ItemsTyped.{has_funcs_typed, has_none_recurs}
+use Rattle.c_types.proofs.WellTyped.{has_funcs_typed, has_none_recurs}
 
 -- Lists of variables
 

@@ -1,6 +1,5 @@
 -- Rows on the edges of comparisons: the loads before the test, the test, and what ends each branch. The temporaries are
--- p0 = 10 and p1 = 11, d0 = 20
--- and d1 = 21.
+-- p0 = 10 and p1 = 11, d0 = 20 and d1 = 21.
 use Rattle.std.proofs.Common.{◌≡◌, Bool, true, false, List, [], ◌∷◌, refl}
 use Rattle.c_types.specs.declared.program.DataPath.TheVariants.{Var as DataVar, Field as DataField}
 use Rattle.c_types.specs.declared.program.PtrOp.{PtrOp}

@@ -1,6 +1,5 @@
 -- Rows on graphs of programs: whole graphs, each shown to be one of its program. Marks are the numbers of locations, so
--- a location is the mark of a place,
--- and the exit is the last one.
+-- a location is the mark of a place, and the exit is the last one.
 use Rattle.std.proofs.Common.{◌≡◌, ℕ, Bool, true, false, true≢false, not, ◌&&◌, Some, None, List, [], ◌∷◌, map, arith}
 use Rattle.std.proofs.Common.{refl, sym}
 use Rattle.std.specs.Prelude.{slice_index_or}

@@ -1,7 +1,8 @@
 -- The places of a file where a rule may be broken, where of the names that were defined before each is kept once, with
 -- how many there were.
-use Rattle.std.specs.Prelude.{ℕ, ◌+◌, Bool, false, ◌||◌, cond, List, [], ◌∷◌, ◌++◌, length, Option, Some}
-use Rattle.std.specs.Prelude.{None}
+use Rattle.std.specs.Prelude.{ℕ, ◌+◌, Bool, false, ◌||◌, cond, nat_eq, List, [], ◌∷◌, ◌++◌, length, Option, Some, None}
+use Rattle.fore_base.specs.declared.limits.TheConstants.{ENUMERATORS, FIELDS, STRUCTS, VARIABLES}
+use Rattle.fore_base.specs.declared.place.Place.{Place}
 use Rattle.c_ast.specs.declared.items.Field.{Field}
 use Rattle.c_ast.specs.declared.items.Head.{Head}
 use Rattle.c_ast.specs.declared.items.Item.{Item}
@@ -15,10 +16,28 @@ use Rattle.c_typing.specs.ItemSites.{body_sites, field_type_sites, gives_sites, 
 use Rattle.c_typing.specs.ItemSites.{own_params_sites, param_sites, result_sites}
 use Rattle.c_typing.specs.Scopes.{Scope, begun, declarators_of, opened, param_name, past_head, past_item, past_result}
 use Rattle.c_typing.specs.Scopes.{result_of}
-use Rattle.c_typing.specs.Sites.{Struct, Enum, Value, Member, Function, Parameter, Site, UsesStruct, Defines, Declares}
-use Rattle.c_typing.specs.Sites.{Functions}
+use Rattle.c_typing.specs.Sites.{Site, UsesStruct}
+use Rattle.c_typing.specs.declared.meaning.Family.{Family}
+use Rattle.c_typing.specs.declared.meaning.Family.TheVariants.{Struct, Enum, Value, Member, Variable}
+use Rattle.c_typing.specs.declared.meaning.Family.TheVariants.{Function, Parameter}
+use Rattle.c_typing.specs.Sites.{Declares, Defines, Functions}
 use Rattle.c_typing.specs.Texts.{Text, has}
+use Rattle.c_typing.specs.declared.fault.TypeFault.{TypeFault}
+use Rattle.c_typing.specs.declared.fault.TypeFault.TheVariants.{Limit}
+use Rattle.c_typing.specs.declared.limits.TheConstants.{FUNCTIONS}
 use Rattle.c_check.specs.declared.definitions.Seen.{Seen}
+use Rattle.c_expressions.specs.Meeting.{noted_when}
+
+-- the first fault so far, after a name at this place before which so many of its family were counted: the family's
+-- limit may be passed there
+abbrev pub counted : Family → ℕ → Place → Option TypeFault → Option TypeFault
+counted Struct count at found = noted_when (nat_eq count STRUCTS) (Limit 2 at) found
+counted Member count at found = noted_when (nat_eq count FIELDS) (Limit 3 at) found
+counted Variable count at found = noted_when (nat_eq count VARIABLES) (Limit 4 at) found
+counted Value count at found = noted_when (nat_eq count ENUMERATORS) (Limit 5 at) found
+counted Function count at found = noted_when (nat_eq count FUNCTIONS) (Limit 10 at) found
+counted Enum count at found = found
+counted Parameter count at found = found
 
 -- one name more, if it is not there
 abbrev pub with_name : List Text → Text → List Text
@@ -28,21 +47,17 @@ abbrev pub with_names : List Text → List Name → List Text
 with_names names [] = names
 with_names names (n ∷ ns) = with_names (with_name names n.text) ns
 
-abbrev pub kept_member_sites : List Text → ℕ → List Name → List Site
-kept_member_sites names count [] = []
-kept_member_sites names count (n ∷ ns) =
-    Defines Member n names count ∷ kept_member_sites (with_name names n.text) (count + 1) ns
+-- names of one family, one after the other
+abbrev pub kept_name_sites : Family → List Text → ℕ → List Name → List Site
+kept_name_sites family names count [] = []
+kept_name_sites family names count (n ∷ ns) =
+    Defines family n names count ∷ kept_name_sites family (with_name names n.text) (count + 1) ns
 
 abbrev pub kept_fields_sites : List Text → ℕ → List Field → List Site
 kept_fields_sites names count [] = []
 kept_fields_sites names count (f ∷ fs) =
-    (field_type_sites f ++ kept_member_sites names count (names_of f))
+    (field_type_sites f ++ kept_name_sites Member names count (names_of f))
     ++ kept_fields_sites (with_names names (names_of f)) (count + length (names_of f)) fs
-
-abbrev pub kept_value_sites : List Text → ℕ → List Name → List Site
-kept_value_sites names count [] = []
-kept_value_sites names count (n ∷ ns) =
-    Defines Value n names count ∷ kept_value_sites (with_name names n.text) (count + 1) ns
 
 -- parameters of a prototype
 abbrev pub kept_params_sites : List Text → List Param → List Site
@@ -124,7 +139,7 @@ module _ (g : Globals) where
   abbrev pub kept_item_sites : Seen → Item → Scope → List Site
   kept_item_sites s (item.Struct at name fields) scope = kept_struct_sites s name fields
   kept_item_sites s (item.Enum at name values) scope =
-      Defines Enum name s.enums 0 ∷ kept_value_sites s.values 0 values
+      Defines Enum name s.enums 0 ∷ kept_name_sites Value s.values 0 values
   kept_item_sites s (item.Proto outer head) scope = kept_proto_sites head
   kept_item_sites s (item.Function head body) scope =
       kept_function_sites s.functions s.function_count head body scope

@@ -1,10 +1,11 @@
 -- What the functions of items read: rules, with the signs that can continue them.
-use Rattle.std.specs.Prelude.{List, Option, Some, None}
+use Rattle.std.specs.Prelude.{Bool, true, false, List, Option, Some, None, ◌∷◌}
 use Rattle.std.proofs.Common.{inl, inr}
 use Rattle.fore_base.specs.declared.place.Place.{Place}
 use Rattle.c_ast.specs.declared.items.Field.{Field}
 use Rattle.c_ast.specs.declared.items.Head.{Head}
 use Rattle.c_ast.specs.declared.items.Item.{Item}
+use Rattle.c_ast.specs.declared.items.Item.TheVariants as item'
 use Rattle.c_ast.specs.declared.items.Param.{Param}
 use Rattle.c_ast.specs.declared.items.Params.{Params}
 use Rattle.c_ast.specs.declared.items.Params.TheVariants as params'
@@ -12,44 +13,45 @@ use Rattle.c_ast.specs.declared.items.ReturnType.{ReturnType}
 use Rattle.c_ast.specs.declared.items.ReturnType.TheVariants as return'
 use Rattle.c_ast.specs.declared.operands.Name.{Name}
 use Rattle.c_ast.specs.declared.statements.Block.{Block}
-use Rattle.c_ast.specs.declared.statements.Data.{Data}
 use Rattle.c_ast.specs.declared.statements.Declarator.{Declarator}
+use Rattle.c_ast.specs.declared.statements.Declare.{Declare}
+use Rattle.c_ast.specs.declared.statements.Declare.TheVariants as declare'
 use Rattle.c_lexer.specs.declared.token.Token.{Token}
-use Rattle.c_grammar.specs.Grammar.{token, ◌then◌, Many, Made}
+use Rattle.c_grammar.specs.Grammar.{Rule, token, ◌then◌, ◌or◌, Many, Made}
 use Rattle.c_grammar.specs.Items as i
 use Rattle.c_grammar.specs.Syntax as s
 use Rattle.c_grammar.specs.declared.signs.Sign.TheVariants as sign
-use Rattle.c_grammar.specs.words.Parted.{declarators_go_on}
 use Rattle.c_grammar.specs.words.Parted.{braces, params_go_on, ending}
-use Rattle.c_grammar.specs.words.Parted.{Called, called, Declared, Rest, data_rest, pointer_rest, data_declared}
-use Rattle.c_grammar.specs.words.Parted.{pointer_declared, head_item, data_item, pointer_item, extern_of, void_of}
-use Rattle.c_grammar.specs.words.Parted.{int_of, EnumRest, enum_rest, enum_item_of, StructRest, struct_rest}
-use Rattle.c_grammar.specs.words.Parted.{struct_item_of, begins_item}
+use Rattle.c_grammar.specs.words.Parted.{Called, called, Declared, Rest, maybe_from, data_rest, pointer_rest}
+use Rattle.c_grammar.specs.words.Parted.{head_item, extern_of, void_of, int_of, EnumRest, enum_rest, enum_item_of}
+use Rattle.c_grammar.specs.words.Parted.{StructRest, struct_rest, struct_item_of, begins_item}
 use Rattle.c_grammar.specs.words.Sets.{no_sign, commas, elses}
 use Rattle.c_grammar.specs.words.Sets.{begins_declare}
 use Rattle.c_grammar.specs.words.Shapes.{Shape}
+use Rattle.c_statements.specs.Shapes.{init_declarator}
+use Rattle.c_parser.specs.declared.globals.Base.{Base}
+use Rattle.c_parser.specs.declared.globals.Base.TheVariants.{Datum, Pointer}
 
-abbrev pub read_star_name : Shape Name
-read_star_name = record { rule = λ n. i.star_name; cont = no_sign; bars = no_sign; heads = no_sign }
+-- the name of a field, behind a star where it is a pointer
+abbrev pub field_name : Bool → Rule Name
+field_name true = λ n. i.star_name
+field_name false = λ n. s.name
 
-abbrev pub read_next_star : Shape Name
-read_next_star =
+abbrev pub read_field_name : Bool → Shape Name
+read_field_name starred = record { rule = field_name starred; cont = no_sign; bars = no_sign; heads = no_sign }
+
+abbrev pub read_next_name : Bool → Shape Name
+read_next_name starred =
     record {
-      rule = λ n. Made s.second (token sign.Comma then i.star_name);
+      rule = λ n. Made s.second (token sign.Comma then field_name starred n);
       cont = no_sign;
       bars = no_sign;
       heads = no_sign;
     }
 
-abbrev pub read_star_names : Shape (List Name)
-read_star_names = record { rule = λ n. s.series sign.Comma i.star_name; cont = commas; bars = no_sign; heads = no_sign }
-
-abbrev pub read_next_name : Shape Name
-read_next_name =
-    record { rule = λ n. Made s.second (token sign.Comma then s.name); cont = no_sign; bars = no_sign; heads = no_sign }
-
-abbrev pub read_names : Shape (List Name)
-read_names = record { rule = λ n. s.series sign.Comma s.name; cont = commas; bars = no_sign; heads = no_sign }
+abbrev pub read_names : Bool → Shape (List Name)
+read_names starred = record
+    { rule = λ n. s.series sign.Comma (field_name starred n); cont = commas; bars = no_sign; heads = no_sign }
 
 abbrev pub read_pointer_field : Shape Field
 read_pointer_field = record {
@@ -180,71 +182,44 @@ read_called gives name =
       heads = no_sign;
     }
 
-abbrev pub read_more_declarators : Shape (List Declarator)
-read_more_declarators = record {
-  rule = λ n. Many (Made s.second (token sign.Comma then s.declarator n));
-  cont = declarators_go_on;
-  bars = no_sign;
-  heads = no_sign;
-}
+-- the type that stands before a name
+abbrev pub is_pointer : Base → Bool
+is_pointer (Datum d) = false
+is_pointer (Pointer p t) = true
 
-abbrev pub read_more_pointers : Shape (List Declarator)
-read_more_pointers = record {
-  rule = λ n. Many (Made s.second (token sign.Comma then Made s.second (token sign.Star then s.declarator n)));
-  cont = declarators_go_on;
-  bars = no_sign;
-  heads = no_sign;
-}
+abbrev pub gives_of : Base → ReturnType
+gives_of (Datum d) = return'.Data d
+gives_of (Pointer p t) = return'.Pointer p t
 
-abbrev pub read_declared_data : Data → Name → Shape Item
-read_declared_data kind name =
+abbrev pub declare_of : Base → List Declarator → Declare
+declare_of (Datum d) vars = declare'.Datums d vars
+declare_of (Pointer p t) vars = declare'.Pointers p t vars
+
+-- what stands after the type and the name, with the item that the whole makes of it
+abbrev pub base_declared : Base → Rule Declared
+base_declared base n = maybe_from n
+    then Many (Made s.second (token sign.Comma then init_declarator (is_pointer base) n)) then token sign.Semicolon
+
+abbrev pub item_of : Base → Name → Rest → Item
+item_of base v q = elim q [
+  | inl c ↦ head_item (gives_of base) v c
+  | inr r ↦ item'.Declare
+      (declare_of base (s.declarator_of (v, r.0) ∷ r.1.0))
+]
+
+abbrev pub read_declared_names : Base → Name → Shape Item
+read_declared_names base name =
     record {
-      rule = λ n. Made (λ (r : Declared). data_item kind name (inr r)) (data_declared n);
+      rule = λ n. Made (λ (r : Declared). item_of base name (inr r)) (base_declared base n);
       cont = no_sign;
       bars = no_sign;
       heads = no_sign;
     }
 
-abbrev pub read_declared_pointers : Place → Name → Name → Shape Item
-read_declared_pointers at shape name =
+abbrev pub read_rest_of : Base → Name → Shape Item
+read_rest_of base name =
     record {
-      rule = λ n. Made (λ (r : Declared). pointer_item at shape name (inr r)) (pointer_declared n);
-      cont = no_sign;
-      bars = no_sign;
-      heads = no_sign;
-    }
-
-abbrev pub read_data_called : Data → Name → Shape Item
-read_data_called kind name =
-    record {
-      rule = λ n. Made (λ (q : Called). data_item kind name (inl q)) (called n);
-      cont = no_sign;
-      bars = elses;
-      heads = no_sign;
-    }
-
-abbrev pub read_pointer_called : Place → Name → Name → Shape Item
-read_pointer_called at shape name =
-    record {
-      rule = λ n. Made (λ (q : Called). pointer_item at shape name (inl q)) (called n);
-      cont = no_sign;
-      bars = elses;
-      heads = no_sign;
-    }
-
-abbrev pub read_rest_of_data : Data → Name → Shape Item
-read_rest_of_data kind name =
-    record {
-      rule = λ n. Made (λ (q : Rest). data_item kind name q) (data_rest n);
-      cont = no_sign;
-      bars = elses;
-      heads = no_sign;
-    }
-
-abbrev pub read_rest_of_pointer : Place → Name → Name → Shape Item
-read_rest_of_pointer at shape name =
-    record {
-      rule = λ n. Made (λ (q : Rest). pointer_item at shape name q) (pointer_rest n);
+      rule = λ n. Made (λ (q : Rest). item_of base name q) (Made inl (called n) or Made inr (base_declared base n));
       cont = no_sign;
       bars = elses;
       heads = no_sign;

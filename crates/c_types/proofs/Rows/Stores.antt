@@ -1,6 +1,5 @@
 -- Rows on steps that take a reference away, on stores that fit a program, and on runs that are over. A relation is
--- shown by a derivation, or
--- refuted.
+-- shown by a derivation, or refuted.
 use Rattle.std.proofs.Common.{◌≡◌, inl, inr, ℕ, Bool, true, false, None, List, [], ◌∷◌, refl, subst, true≢false, arith}
 use Rattle.fore_base.specs.declared.fault.Fault.TheVariants.{Leak}
 use Rattle.fore_base.specs.declared.store.Value.{Value}

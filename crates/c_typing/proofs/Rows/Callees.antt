@@ -1,5 +1,5 @@
 -- Rows on which functions are called, and what they weigh.
-use Rattle.std.proofs.Common.{◌≡◌, true, false, List, [], ◌∷◌, Option, Some, None, codes, refl}
+use Rattle.std.proofs.Common.{◌≡◌, true, false, List, [], ◌∷◌, Some, None, codes, refl}
 use Rattle.c_ast.specs.declared.conditions.Test.TheVariants as test
 use Rattle.c_ast.specs.declared.conditions.Unary.TheVariants as unary
 use Rattle.c_ast.specs.declared.items.Item.{Item}
@@ -16,7 +16,7 @@ use Rattle.c_ast.specs.declared.statements.Declare.TheVariants as declare
 use Rattle.c_ast.specs.declared.statements.First.TheVariants as first
 use Rattle.c_ast.specs.declared.statements.Part.TheVariants as part'
 use Rattle.c_ast.specs.declared.statements.Stmt.TheVariants as stmt
-use Rattle.c_typing.specs.Callees.{stmt_callees, block_callees}
+use Rattle.c_typing.specs.Callees.{stmt_callees}
 use Rattle.c_typing.specs.Globals.{calls_of, names_of_calls}
 use Rattle.c_typing.specs.Weights.{statements_of, main_weight}
 use Rattle.c_typing.proofs.Layers.{layers}

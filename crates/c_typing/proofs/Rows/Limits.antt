@@ -1,10 +1,13 @@
 -- Rows on limits: as many as there may be, and one more.
-use Rattle.std.proofs.Common.{◌≡◌, ℕ, zero, suc, true, false, List, [], ◌∷◌, ◌++◌, Some, None, codes, refl}
+use Rattle.std.proofs.Common.{◌≡◌, ℕ, zero, suc, ◌+◌, false, List, [], ◌∷◌, ◌++◌, Some, None, codes, refl}
 use Rattle.c_ast.specs.declared.conditions.Test.TheVariants as test
 use Rattle.c_ast.specs.declared.conditions.Unary.TheVariants as unary
+use Rattle.c_ast.specs.declared.items.Field.{Field}
 use Rattle.c_ast.specs.declared.items.Field.TheVariants as field
+use Rattle.c_ast.specs.declared.items.Item.{Item}
 use Rattle.c_ast.specs.declared.items.Item.TheVariants as item
 use Rattle.c_ast.specs.declared.items.ReturnType.TheVariants as gives
+use Rattle.c_ast.specs.declared.operands.Name.{Name}
 use Rattle.c_ast.specs.declared.operands.Operand.TheVariants as operand
 use Rattle.c_ast.specs.declared.simples.Rhs.TheVariants as rhs
 use Rattle.c_ast.specs.declared.simples.Simple.TheVariants as simple
@@ -30,351 +33,119 @@ use Rattle.c_typing.specs.ItemSites.{body_sites}
 use Rattle.c_typing.specs.Rules.{k7, k8}
 use Rattle.c_typing.specs.Scopes.{Scope}
 use Rattle.c_typing.specs.Sites.{Counts, Overflows}
+use Rattle.c_typing.specs.Texts.{Text}
 use Rattle.c_typing.specs.Typing.{breaches_of}
 use Rattle.c_typing.specs.declared.fault.TypeFault.{TypeFault}
+
+-- int main() { }
+abbrev main_item : Item
+main_item = item.Function (head (gives.Data (data'.Int (at 200))) (name (codes "main") 201) None) (block 204 [] 205)
+
+-- so many names that begin so, all different: the first has this number, and each is the next token but one
+abbrev names : Text → ℕ → ℕ → ℕ → List Name
+names text zero k n = []
+names text (suc m) k n = name (text ++ (48 + k) ∷ []) n ∷ names text m (suc k) (n + 2)
+
+-- so many fields of one line, f0 the first
+abbrev fields : ℕ → ℕ → Field
+fields m n = field.Datums (data'.Int (at n)) (names (codes "f") m 0 (n + 1))
+
+-- so many structs with one field, all different: the first has this number, and each begins 8 tokens later
+abbrev structs : ℕ → ℕ → ℕ → List Item
+structs zero k n = []
+structs (suc m) k n =
+    item.Struct (at n) (name (codes "s" ++ (48 + k) ∷ []) (n + 1))
+    (Some (field.Datums (data'.Int (at (n + 3))) (name (codes "a") (n + 4) ∷ []) ∷ []))
+    ∷ structs m (suc k) (n + 8)
 
 -- a struct of 16 fields
 fields_16 :
     breaches
-    (unit (item.Function (head (gives.Data (data'.Int (at 200))) (name (codes "main") 201) None) (block 204 [] 205)
-    ∷ item.Struct (at 206) (name (codes "s") 207)
-    (Some
-    (field.Datums (data'.Int (at 209))
-    ((name (codes "f0") 210) ∷ (name (codes "f1") 212) ∷ (name (codes "f2") 214) ∷ (name (codes "f3") 216)
-    ∷ (name (codes "f4") 218) ∷ (name (codes "f5") 220) ∷ (name (codes "f6") 222) ∷ (name (codes "f7") 224)
-    ∷ (name (codes "f8") 226) ∷ (name (codes "f9") 228) ∷ (name (codes "f10") 230) ∷ (name (codes "f11") 232)
-    ∷ (name (codes "f12") 234) ∷ (name (codes "f13") 236) ∷ (name (codes "f14") 238) ∷ (name (codes "f15") 240) ∷ [])
-    ∷ [])) ∷ []) 244) ≡ []
+    (unit (main_item ∷ item.Struct (at 206) (name (codes "s") 207) (Some (fields 16 209 ∷ [])) ∷ []) 244) ≡ []
 unfolding breaches site_breaches overweight
 fields_16 = simp layers refl
 
 -- the 17th field; the 18th breaks nothing more
 fields_17 :
     breaches
-    (unit (item.Function (head (gives.Data (data'.Int (at 200))) (name (codes "main") 201) None) (block 204 [] 205)
-    ∷ item.Struct (at 206) (name (codes "s") 207)
+    (unit
+    (main_item ∷ item.Struct (at 206) (name (codes "s") 207)
     (Some
-    (field.Datums (data'.Int (at 209))
-    ((name (codes "f0") 210) ∷ (name (codes "f1") 212) ∷ (name (codes "f2") 214) ∷ (name (codes "f3") 216)
-    ∷ (name (codes "f4") 218) ∷ (name (codes "f5") 220) ∷ (name (codes "f6") 222) ∷ (name (codes "f7") 224)
-    ∷ (name (codes "f8") 226) ∷ (name (codes "f9") 228) ∷ (name (codes "f10") 230) ∷ (name (codes "f11") 232)
-    ∷ (name (codes "f12") 234) ∷ (name (codes "f13") 236) ∷ (name (codes "f14") 238) ∷ (name (codes "f15") 240) ∷ [])
-    ∷ field.Pointers (at 242) (name (codes "s") 243) ((name (codes "f16") 245) ∷ (name (codes "f17") 248) ∷ []) ∷ []))
+    (fields 16 209
+    ∷ field.Pointers (at 242) (name (codes "s") 243) (name (codes "f16") 245 ∷ name (codes "f17") 248 ∷ []) ∷ []))
     ∷ []) 252) ≡ Limit 3 (at 245) ∷ []
 unfolding breaches site_breaches
 fields_17 = simp layers refl
 
 -- 15 fields in one struct and 2 in another
-fields_of_two : breaches
-    (unit (item.Function (head (gives.Data (data'.Int (at 200))) (name (codes "main") 201) None) (block 204 [] 205)
-    ∷ item.Struct (at 206) (name (codes "s") 207)
-    (Some
-    (field.Datums (data'.Int (at 209))
-    ((name (codes "f0") 210) ∷ (name (codes "f1") 212) ∷ (name (codes "f2") 214) ∷ (name (codes "f3") 216)
-    ∷ (name (codes "f4") 218) ∷ (name (codes "f5") 220) ∷ (name (codes "f6") 222) ∷ (name (codes "f7") 224)
-    ∷ (name (codes "f8") 226) ∷ (name (codes "f9") 228) ∷ (name (codes "f10") 230) ∷ (name (codes "f11") 232)
-    ∷ (name (codes "f12") 234) ∷ (name (codes "f13") 236) ∷ (name (codes "f14") 238) ∷ []) ∷ []))
+fields_of_two :
+    breaches
+    (unit
+    (main_item ∷ item.Struct (at 206) (name (codes "s") 207) (Some (fields 15 209 ∷ []))
     ∷ item.Struct (at 242) (name (codes "t") 243)
-    (Some (field.Datums (data'.Int (at 245)) ((name (codes "g") 246) ∷ (name (codes "h") 248) ∷ []) ∷ [])) ∷ []) 252)
-    ≡ []
+    (Some (field.Datums (data'.Int (at 245)) (name (codes "g") 246 ∷ name (codes "h") 248 ∷ []) ∷ [])) ∷ []) 252) ≡ []
 unfolding breaches site_breaches overweight
 fields_of_two = simp layers refl
 
 -- a repeated field counts too
-fields_17_again : breaches
-    (unit (item.Function (head (gives.Data (data'.Int (at 200))) (name (codes "main") 201) None) (block 204 [] 205)
-    ∷ item.Struct (at 206) (name (codes "s") 207)
-    (Some
-    (field.Datums (data'.Int (at 209))
-    ((name (codes "f0") 210) ∷ (name (codes "f1") 212) ∷ (name (codes "f2") 214) ∷ (name (codes "f3") 216)
-    ∷ (name (codes "f4") 218) ∷ (name (codes "f5") 220) ∷ (name (codes "f6") 222) ∷ (name (codes "f7") 224)
-    ∷ (name (codes "f8") 226) ∷ (name (codes "f9") 228) ∷ (name (codes "f10") 230) ∷ (name (codes "f11") 232)
-    ∷ (name (codes "f12") 234) ∷ (name (codes "f13") 236) ∷ (name (codes "f14") 238) ∷ (name (codes "f15") 240)
-    ∷ (name (codes "f0") 242) ∷ []) ∷ [])) ∷ []) 246) ≡ Rule 5 (at 242) ∷ Limit 3 (at 242) ∷ []
+fields_17_again :
+    breaches
+    (unit
+    (main_item ∷ item.Struct (at 206) (name (codes "s") 207)
+    (Some (field.Datums (data'.Int (at 209)) (names (codes "f") 16 0 210 ++ name (codes "f0") 242 ∷ []) ∷ [])) ∷ [])
+    246) ≡ Rule 5 (at 242) ∷ Limit 3 (at 242) ∷ []
 unfolding breaches site_breaches
 fields_17_again = simp layers refl
 
 -- each struct is counted by itself
-fields_17_twice : breaches
-    (unit (item.Function (head (gives.Data (data'.Int (at 200))) (name (codes "main") 201) None) (block 204 [] 205)
-    ∷ item.Struct (at 206) (name (codes "s") 207)
-    (Some
-    (field.Datums (data'.Int (at 209))
-    ((name (codes "f0") 210) ∷ (name (codes "f1") 212) ∷ (name (codes "f2") 214) ∷ (name (codes "f3") 216)
-    ∷ (name (codes "f4") 218) ∷ (name (codes "f5") 220) ∷ (name (codes "f6") 222) ∷ (name (codes "f7") 224)
-    ∷ (name (codes "f8") 226) ∷ (name (codes "f9") 228) ∷ (name (codes "f10") 230) ∷ (name (codes "f11") 232)
-    ∷ (name (codes "f12") 234) ∷ (name (codes "f13") 236) ∷ (name (codes "f14") 238) ∷ (name (codes "f15") 240)
-    ∷ (name (codes "f16") 242) ∷ []) ∷ []))
-    ∷ item.Struct (at 246) (name (codes "t") 247)
-    (Some
-    (field.Datums (data'.Int (at 249))
-    ((name (codes "f0") 250) ∷ (name (codes "f1") 252) ∷ (name (codes "f2") 254) ∷ (name (codes "f3") 256)
-    ∷ (name (codes "f4") 258) ∷ (name (codes "f5") 260) ∷ (name (codes "f6") 262) ∷ (name (codes "f7") 264)
-    ∷ (name (codes "f8") 266) ∷ (name (codes "f9") 268) ∷ (name (codes "f10") 270) ∷ (name (codes "f11") 272)
-    ∷ (name (codes "f12") 274) ∷ (name (codes "f13") 276) ∷ (name (codes "f14") 278) ∷ (name (codes "f15") 280)
-    ∷ (name (codes "f16") 282) ∷ []) ∷ [])) ∷ []) 286) ≡ Limit 3 (at 242) ∷ Limit 3 (at 282) ∷ []
+fields_17_twice :
+    breaches
+    (unit
+    (main_item ∷ item.Struct (at 206) (name (codes "s") 207) (Some (fields 17 209 ∷ []))
+    ∷ item.Struct (at 246) (name (codes "t") 247) (Some (fields 17 249 ∷ [])) ∷ []) 286) ≡ Limit 3 (at 242)
+    ∷ Limit 3 (at 282) ∷ []
 unfolding breaches site_breaches
 fields_17_twice = simp layers refl
 
 -- an enumeration of 16 enumerators
 values_16 :
-    breaches
-    (unit (item.Function (head (gives.Data (data'.Int (at 200))) (name (codes "main") 201) None) (block 204 [] 205)
-    ∷ item.Enum (at 206) (name (codes "e") 207)
-    ((name (codes "A0") 209) ∷ (name (codes "A1") 211) ∷ (name (codes "A2") 213) ∷ (name (codes "A3") 215)
-    ∷ (name (codes "A4") 217) ∷ (name (codes "A5") 219) ∷ (name (codes "A6") 221) ∷ (name (codes "A7") 223)
-    ∷ (name (codes "A8") 225) ∷ (name (codes "A9") 227) ∷ (name (codes "A10") 229) ∷ (name (codes "A11") 231)
-    ∷ (name (codes "A12") 233) ∷ (name (codes "A13") 235) ∷ (name (codes "A14") 237) ∷ (name (codes "A15") 239) ∷ [])
-    ∷ []) 242) ≡ []
+    breaches (unit (main_item ∷ item.Enum (at 206) (name (codes "e") 207) (names (codes "A") 16 0 209) ∷ []) 242) ≡ []
 unfolding breaches site_breaches overweight
 values_16 = simp layers refl
 
 -- the 17th enumerator
 values_17 :
-    breaches
-    (unit (item.Function (head (gives.Data (data'.Int (at 200))) (name (codes "main") 201) None) (block 204 [] 205)
-    ∷ item.Enum (at 206) (name (codes "e") 207)
-    ((name (codes "A0") 209) ∷ (name (codes "A1") 211) ∷ (name (codes "A2") 213) ∷ (name (codes "A3") 215)
-    ∷ (name (codes "A4") 217) ∷ (name (codes "A5") 219) ∷ (name (codes "A6") 221) ∷ (name (codes "A7") 223)
-    ∷ (name (codes "A8") 225) ∷ (name (codes "A9") 227) ∷ (name (codes "A10") 229) ∷ (name (codes "A11") 231)
-    ∷ (name (codes "A12") 233) ∷ (name (codes "A13") 235) ∷ (name (codes "A14") 237) ∷ (name (codes "A15") 239)
-    ∷ (name (codes "A16") 241) ∷ (name (codes "A17") 243) ∷ []) ∷ []) 246) ≡ Limit 5 (at 241) ∷ []
+    breaches (unit (main_item ∷ item.Enum (at 206) (name (codes "e") 207) (names (codes "A") 18 0 209) ∷ []) 246)
+    ≡ Limit 5 (at 241) ∷ []
 unfolding breaches site_breaches
 values_17 = simp (place_layers, scope_layers, site_layers) refl
 
 -- 15 enumerators in each of two enumerations
-values_of_two : breaches
-    (unit (item.Function (head (gives.Data (data'.Int (at 200))) (name (codes "main") 201) None) (block 204 [] 205)
-    ∷ item.Enum (at 206) (name (codes "e") 207)
-    ((name (codes "A0") 209) ∷ (name (codes "A1") 211) ∷ (name (codes "A2") 213) ∷ (name (codes "A3") 215)
-    ∷ (name (codes "A4") 217) ∷ (name (codes "A5") 219) ∷ (name (codes "A6") 221) ∷ (name (codes "A7") 223)
-    ∷ (name (codes "A8") 225) ∷ (name (codes "A9") 227) ∷ (name (codes "A10") 229) ∷ (name (codes "A11") 231)
-    ∷ (name (codes "A12") 233) ∷ (name (codes "A13") 235) ∷ (name (codes "A14") 237) ∷ [])
-    ∷ item.Enum (at 240) (name (codes "f") 241)
-    ((name (codes "B0") 243) ∷ (name (codes "B1") 245) ∷ (name (codes "B2") 247) ∷ (name (codes "B3") 249)
-    ∷ (name (codes "B4") 251) ∷ (name (codes "B5") 253) ∷ (name (codes "B6") 255) ∷ (name (codes "B7") 257)
-    ∷ (name (codes "B8") 259) ∷ (name (codes "B9") 261) ∷ (name (codes "B10") 263) ∷ (name (codes "B11") 265)
-    ∷ (name (codes "B12") 267) ∷ (name (codes "B13") 269) ∷ (name (codes "B14") 271) ∷ []) ∷ []) 274) ≡ []
+values_of_two :
+    breaches
+    (unit
+    (main_item ∷ item.Enum (at 206) (name (codes "e") 207) (names (codes "A") 15 0 209)
+    ∷ item.Enum (at 240) (name (codes "f") 241) (names (codes "B") 15 0 243) ∷ []) 274) ≡ []
 unfolding breaches site_breaches overweight
 values_of_two = simp layers refl
 
 -- 32 structs
-structs_32 :
-    breaches
-    (unit (item.Function (head (gives.Data (data'.Int (at 200))) (name (codes "main") 201) None) (block 204 [] 205)
-    ∷ item.Struct (at 206) (name (codes "s0") 207)
-    (Some (field.Datums (data'.Int (at 209)) ((name (codes "a") 210) ∷ []) ∷ []))
-    ∷ item.Struct (at 214) (name (codes "s1") 215)
-    (Some (field.Datums (data'.Int (at 217)) ((name (codes "a") 218) ∷ []) ∷ []))
-    ∷ item.Struct (at 222) (name (codes "s2") 223)
-    (Some (field.Datums (data'.Int (at 225)) ((name (codes "a") 226) ∷ []) ∷ []))
-    ∷ item.Struct (at 230) (name (codes "s3") 231)
-    (Some (field.Datums (data'.Int (at 233)) ((name (codes "a") 234) ∷ []) ∷ []))
-    ∷ item.Struct (at 238) (name (codes "s4") 239)
-    (Some (field.Datums (data'.Int (at 241)) ((name (codes "a") 242) ∷ []) ∷ []))
-    ∷ item.Struct (at 246) (name (codes "s5") 247)
-    (Some (field.Datums (data'.Int (at 249)) ((name (codes "a") 250) ∷ []) ∷ []))
-    ∷ item.Struct (at 254) (name (codes "s6") 255)
-    (Some (field.Datums (data'.Int (at 257)) ((name (codes "a") 258) ∷ []) ∷ []))
-    ∷ item.Struct (at 262) (name (codes "s7") 263)
-    (Some (field.Datums (data'.Int (at 265)) ((name (codes "a") 266) ∷ []) ∷ []))
-    ∷ item.Struct (at 270) (name (codes "s8") 271)
-    (Some (field.Datums (data'.Int (at 273)) ((name (codes "a") 274) ∷ []) ∷ []))
-    ∷ item.Struct (at 278) (name (codes "s9") 279)
-    (Some (field.Datums (data'.Int (at 281)) ((name (codes "a") 282) ∷ []) ∷ []))
-    ∷ item.Struct (at 286) (name (codes "s10") 287)
-    (Some (field.Datums (data'.Int (at 289)) ((name (codes "a") 290) ∷ []) ∷ []))
-    ∷ item.Struct (at 294) (name (codes "s11") 295)
-    (Some (field.Datums (data'.Int (at 297)) ((name (codes "a") 298) ∷ []) ∷ []))
-    ∷ item.Struct (at 302) (name (codes "s12") 303)
-    (Some (field.Datums (data'.Int (at 305)) ((name (codes "a") 306) ∷ []) ∷ []))
-    ∷ item.Struct (at 310) (name (codes "s13") 311)
-    (Some (field.Datums (data'.Int (at 313)) ((name (codes "a") 314) ∷ []) ∷ []))
-    ∷ item.Struct (at 318) (name (codes "s14") 319)
-    (Some (field.Datums (data'.Int (at 321)) ((name (codes "a") 322) ∷ []) ∷ []))
-    ∷ item.Struct (at 326) (name (codes "s15") 327)
-    (Some (field.Datums (data'.Int (at 329)) ((name (codes "a") 330) ∷ []) ∷ []))
-    ∷ item.Struct (at 334) (name (codes "s16") 335)
-    (Some (field.Datums (data'.Int (at 337)) ((name (codes "a") 338) ∷ []) ∷ []))
-    ∷ item.Struct (at 342) (name (codes "s17") 343)
-    (Some (field.Datums (data'.Int (at 345)) ((name (codes "a") 346) ∷ []) ∷ []))
-    ∷ item.Struct (at 350) (name (codes "s18") 351)
-    (Some (field.Datums (data'.Int (at 353)) ((name (codes "a") 354) ∷ []) ∷ []))
-    ∷ item.Struct (at 358) (name (codes "s19") 359)
-    (Some (field.Datums (data'.Int (at 361)) ((name (codes "a") 362) ∷ []) ∷ []))
-    ∷ item.Struct (at 366) (name (codes "s20") 367)
-    (Some (field.Datums (data'.Int (at 369)) ((name (codes "a") 370) ∷ []) ∷ []))
-    ∷ item.Struct (at 374) (name (codes "s21") 375)
-    (Some (field.Datums (data'.Int (at 377)) ((name (codes "a") 378) ∷ []) ∷ []))
-    ∷ item.Struct (at 382) (name (codes "s22") 383)
-    (Some (field.Datums (data'.Int (at 385)) ((name (codes "a") 386) ∷ []) ∷ []))
-    ∷ item.Struct (at 390) (name (codes "s23") 391)
-    (Some (field.Datums (data'.Int (at 393)) ((name (codes "a") 394) ∷ []) ∷ []))
-    ∷ item.Struct (at 398) (name (codes "s24") 399)
-    (Some (field.Datums (data'.Int (at 401)) ((name (codes "a") 402) ∷ []) ∷ []))
-    ∷ item.Struct (at 406) (name (codes "s25") 407)
-    (Some (field.Datums (data'.Int (at 409)) ((name (codes "a") 410) ∷ []) ∷ []))
-    ∷ item.Struct (at 414) (name (codes "s26") 415)
-    (Some (field.Datums (data'.Int (at 417)) ((name (codes "a") 418) ∷ []) ∷ []))
-    ∷ item.Struct (at 422) (name (codes "s27") 423)
-    (Some (field.Datums (data'.Int (at 425)) ((name (codes "a") 426) ∷ []) ∷ []))
-    ∷ item.Struct (at 430) (name (codes "s28") 431)
-    (Some (field.Datums (data'.Int (at 433)) ((name (codes "a") 434) ∷ []) ∷ []))
-    ∷ item.Struct (at 438) (name (codes "s29") 439)
-    (Some (field.Datums (data'.Int (at 441)) ((name (codes "a") 442) ∷ []) ∷ []))
-    ∷ item.Struct (at 446) (name (codes "s30") 447)
-    (Some (field.Datums (data'.Int (at 449)) ((name (codes "a") 450) ∷ []) ∷ []))
-    ∷ item.Struct (at 454) (name (codes "s31") 455)
-    (Some (field.Datums (data'.Int (at 457)) ((name (codes "a") 458) ∷ []) ∷ [])) ∷ []) 462) ≡ []
+structs_32 : breaches (unit (main_item ∷ structs 32 0 206) 462) ≡ []
 unfolding breaches site_breaches overweight
 structs_32 = simp layers refl
 
 -- the 33rd struct with braces; those without do not count
 structs_33 :
     breaches
-    (unit (item.Function (head (gives.Data (data'.Int (at 200))) (name (codes "main") 201) None) (block 204 [] 205)
-    ∷ item.Struct (at 206) (name (codes "s0") 207) None
-    ∷ item.Struct (at 209) (name (codes "s0") 210)
-    (Some (field.Datums (data'.Int (at 212)) ((name (codes "a") 213) ∷ []) ∷ []))
-    ∷ item.Struct (at 217) (name (codes "s1") 218)
-    (Some (field.Datums (data'.Int (at 220)) ((name (codes "a") 221) ∷ []) ∷ []))
-    ∷ item.Struct (at 225) (name (codes "s2") 226)
-    (Some (field.Datums (data'.Int (at 228)) ((name (codes "a") 229) ∷ []) ∷ []))
-    ∷ item.Struct (at 233) (name (codes "s3") 234)
-    (Some (field.Datums (data'.Int (at 236)) ((name (codes "a") 237) ∷ []) ∷ []))
-    ∷ item.Struct (at 241) (name (codes "s4") 242)
-    (Some (field.Datums (data'.Int (at 244)) ((name (codes "a") 245) ∷ []) ∷ []))
-    ∷ item.Struct (at 249) (name (codes "s5") 250)
-    (Some (field.Datums (data'.Int (at 252)) ((name (codes "a") 253) ∷ []) ∷ []))
-    ∷ item.Struct (at 257) (name (codes "s6") 258)
-    (Some (field.Datums (data'.Int (at 260)) ((name (codes "a") 261) ∷ []) ∷ []))
-    ∷ item.Struct (at 265) (name (codes "s7") 266)
-    (Some (field.Datums (data'.Int (at 268)) ((name (codes "a") 269) ∷ []) ∷ []))
-    ∷ item.Struct (at 273) (name (codes "s8") 274)
-    (Some (field.Datums (data'.Int (at 276)) ((name (codes "a") 277) ∷ []) ∷ []))
-    ∷ item.Struct (at 281) (name (codes "s9") 282)
-    (Some (field.Datums (data'.Int (at 284)) ((name (codes "a") 285) ∷ []) ∷ []))
-    ∷ item.Struct (at 289) (name (codes "s10") 290)
-    (Some (field.Datums (data'.Int (at 292)) ((name (codes "a") 293) ∷ []) ∷ []))
-    ∷ item.Struct (at 297) (name (codes "s11") 298)
-    (Some (field.Datums (data'.Int (at 300)) ((name (codes "a") 301) ∷ []) ∷ []))
-    ∷ item.Struct (at 305) (name (codes "s12") 306)
-    (Some (field.Datums (data'.Int (at 308)) ((name (codes "a") 309) ∷ []) ∷ []))
-    ∷ item.Struct (at 313) (name (codes "s13") 314)
-    (Some (field.Datums (data'.Int (at 316)) ((name (codes "a") 317) ∷ []) ∷ []))
-    ∷ item.Struct (at 321) (name (codes "s14") 322)
-    (Some (field.Datums (data'.Int (at 324)) ((name (codes "a") 325) ∷ []) ∷ []))
-    ∷ item.Struct (at 329) (name (codes "s15") 330)
-    (Some (field.Datums (data'.Int (at 332)) ((name (codes "a") 333) ∷ []) ∷ []))
-    ∷ item.Struct (at 337) (name (codes "s16") 338)
-    (Some (field.Datums (data'.Int (at 340)) ((name (codes "a") 341) ∷ []) ∷ []))
-    ∷ item.Struct (at 345) (name (codes "s17") 346)
-    (Some (field.Datums (data'.Int (at 348)) ((name (codes "a") 349) ∷ []) ∷ []))
-    ∷ item.Struct (at 353) (name (codes "s18") 354)
-    (Some (field.Datums (data'.Int (at 356)) ((name (codes "a") 357) ∷ []) ∷ []))
-    ∷ item.Struct (at 361) (name (codes "s19") 362)
-    (Some (field.Datums (data'.Int (at 364)) ((name (codes "a") 365) ∷ []) ∷ []))
-    ∷ item.Struct (at 369) (name (codes "s20") 370)
-    (Some (field.Datums (data'.Int (at 372)) ((name (codes "a") 373) ∷ []) ∷ []))
-    ∷ item.Struct (at 377) (name (codes "s21") 378)
-    (Some (field.Datums (data'.Int (at 380)) ((name (codes "a") 381) ∷ []) ∷ []))
-    ∷ item.Struct (at 385) (name (codes "s22") 386)
-    (Some (field.Datums (data'.Int (at 388)) ((name (codes "a") 389) ∷ []) ∷ []))
-    ∷ item.Struct (at 393) (name (codes "s23") 394)
-    (Some (field.Datums (data'.Int (at 396)) ((name (codes "a") 397) ∷ []) ∷ []))
-    ∷ item.Struct (at 401) (name (codes "s24") 402)
-    (Some (field.Datums (data'.Int (at 404)) ((name (codes "a") 405) ∷ []) ∷ []))
-    ∷ item.Struct (at 409) (name (codes "s25") 410)
-    (Some (field.Datums (data'.Int (at 412)) ((name (codes "a") 413) ∷ []) ∷ []))
-    ∷ item.Struct (at 417) (name (codes "s26") 418)
-    (Some (field.Datums (data'.Int (at 420)) ((name (codes "a") 421) ∷ []) ∷ []))
-    ∷ item.Struct (at 425) (name (codes "s27") 426)
-    (Some (field.Datums (data'.Int (at 428)) ((name (codes "a") 429) ∷ []) ∷ []))
-    ∷ item.Struct (at 433) (name (codes "s28") 434)
-    (Some (field.Datums (data'.Int (at 436)) ((name (codes "a") 437) ∷ []) ∷ []))
-    ∷ item.Struct (at 441) (name (codes "s29") 442)
-    (Some (field.Datums (data'.Int (at 444)) ((name (codes "a") 445) ∷ []) ∷ []))
-    ∷ item.Struct (at 449) (name (codes "s30") 450)
-    (Some (field.Datums (data'.Int (at 452)) ((name (codes "a") 453) ∷ []) ∷ []))
-    ∷ item.Struct (at 457) (name (codes "s31") 458)
-    (Some (field.Datums (data'.Int (at 460)) ((name (codes "a") 461) ∷ []) ∷ []))
-    ∷ item.Struct (at 465) (name (codes "s0") 466) None
-    ∷ item.Struct (at 468) (name (codes "s32") 469)
-    (Some (field.Datums (data'.Int (at 471)) ((name (codes "a") 472) ∷ []) ∷ []))
-    ∷ item.Struct (at 476) (name (codes "s33") 477)
-    (Some (field.Datums (data'.Int (at 479)) ((name (codes "a") 480) ∷ []) ∷ [])) ∷ []) 484) ≡ Limit 2 (at 469) ∷ []
+    (unit
+    (main_item ∷ item.Struct (at 206) (name (codes "s0") 207) None
+    ∷ structs 32 0 209 ++ item.Struct (at 465) (name (codes "s0") 466) None ∷ structs 2 32 468) 484)
+    ≡ Limit 2 (at 469) ∷ []
 unfolding breaches site_breaches
 structs_33 = simp layers refl
 
 -- a repeated struct counts too
-structs_33_again : breaches
-    (unit (item.Function (head (gives.Data (data'.Int (at 200))) (name (codes "main") 201) None) (block 204 [] 205)
-    ∷ item.Struct (at 206) (name (codes "s0") 207)
-    (Some (field.Datums (data'.Int (at 209)) ((name (codes "a") 210) ∷ []) ∷ []))
-    ∷ item.Struct (at 214) (name (codes "s1") 215)
-    (Some (field.Datums (data'.Int (at 217)) ((name (codes "a") 218) ∷ []) ∷ []))
-    ∷ item.Struct (at 222) (name (codes "s2") 223)
-    (Some (field.Datums (data'.Int (at 225)) ((name (codes "a") 226) ∷ []) ∷ []))
-    ∷ item.Struct (at 230) (name (codes "s3") 231)
-    (Some (field.Datums (data'.Int (at 233)) ((name (codes "a") 234) ∷ []) ∷ []))
-    ∷ item.Struct (at 238) (name (codes "s4") 239)
-    (Some (field.Datums (data'.Int (at 241)) ((name (codes "a") 242) ∷ []) ∷ []))
-    ∷ item.Struct (at 246) (name (codes "s5") 247)
-    (Some (field.Datums (data'.Int (at 249)) ((name (codes "a") 250) ∷ []) ∷ []))
-    ∷ item.Struct (at 254) (name (codes "s6") 255)
-    (Some (field.Datums (data'.Int (at 257)) ((name (codes "a") 258) ∷ []) ∷ []))
-    ∷ item.Struct (at 262) (name (codes "s7") 263)
-    (Some (field.Datums (data'.Int (at 265)) ((name (codes "a") 266) ∷ []) ∷ []))
-    ∷ item.Struct (at 270) (name (codes "s8") 271)
-    (Some (field.Datums (data'.Int (at 273)) ((name (codes "a") 274) ∷ []) ∷ []))
-    ∷ item.Struct (at 278) (name (codes "s9") 279)
-    (Some (field.Datums (data'.Int (at 281)) ((name (codes "a") 282) ∷ []) ∷ []))
-    ∷ item.Struct (at 286) (name (codes "s10") 287)
-    (Some (field.Datums (data'.Int (at 289)) ((name (codes "a") 290) ∷ []) ∷ []))
-    ∷ item.Struct (at 294) (name (codes "s11") 295)
-    (Some (field.Datums (data'.Int (at 297)) ((name (codes "a") 298) ∷ []) ∷ []))
-    ∷ item.Struct (at 302) (name (codes "s12") 303)
-    (Some (field.Datums (data'.Int (at 305)) ((name (codes "a") 306) ∷ []) ∷ []))
-    ∷ item.Struct (at 310) (name (codes "s13") 311)
-    (Some (field.Datums (data'.Int (at 313)) ((name (codes "a") 314) ∷ []) ∷ []))
-    ∷ item.Struct (at 318) (name (codes "s14") 319)
-    (Some (field.Datums (data'.Int (at 321)) ((name (codes "a") 322) ∷ []) ∷ []))
-    ∷ item.Struct (at 326) (name (codes "s15") 327)
-    (Some (field.Datums (data'.Int (at 329)) ((name (codes "a") 330) ∷ []) ∷ []))
-    ∷ item.Struct (at 334) (name (codes "s16") 335)
-    (Some (field.Datums (data'.Int (at 337)) ((name (codes "a") 338) ∷ []) ∷ []))
-    ∷ item.Struct (at 342) (name (codes "s17") 343)
-    (Some (field.Datums (data'.Int (at 345)) ((name (codes "a") 346) ∷ []) ∷ []))
-    ∷ item.Struct (at 350) (name (codes "s18") 351)
-    (Some (field.Datums (data'.Int (at 353)) ((name (codes "a") 354) ∷ []) ∷ []))
-    ∷ item.Struct (at 358) (name (codes "s19") 359)
-    (Some (field.Datums (data'.Int (at 361)) ((name (codes "a") 362) ∷ []) ∷ []))
-    ∷ item.Struct (at 366) (name (codes "s20") 367)
-    (Some (field.Datums (data'.Int (at 369)) ((name (codes "a") 370) ∷ []) ∷ []))
-    ∷ item.Struct (at 374) (name (codes "s21") 375)
-    (Some (field.Datums (data'.Int (at 377)) ((name (codes "a") 378) ∷ []) ∷ []))
-    ∷ item.Struct (at 382) (name (codes "s22") 383)
-    (Some (field.Datums (data'.Int (at 385)) ((name (codes "a") 386) ∷ []) ∷ []))
-    ∷ item.Struct (at 390) (name (codes "s23") 391)
-    (Some (field.Datums (data'.Int (at 393)) ((name (codes "a") 394) ∷ []) ∷ []))
-    ∷ item.Struct (at 398) (name (codes "s24") 399)
-    (Some (field.Datums (data'.Int (at 401)) ((name (codes "a") 402) ∷ []) ∷ []))
-    ∷ item.Struct (at 406) (name (codes "s25") 407)
-    (Some (field.Datums (data'.Int (at 409)) ((name (codes "a") 410) ∷ []) ∷ []))
-    ∷ item.Struct (at 414) (name (codes "s26") 415)
-    (Some (field.Datums (data'.Int (at 417)) ((name (codes "a") 418) ∷ []) ∷ []))
-    ∷ item.Struct (at 422) (name (codes "s27") 423)
-    (Some (field.Datums (data'.Int (at 425)) ((name (codes "a") 426) ∷ []) ∷ []))
-    ∷ item.Struct (at 430) (name (codes "s28") 431)
-    (Some (field.Datums (data'.Int (at 433)) ((name (codes "a") 434) ∷ []) ∷ []))
-    ∷ item.Struct (at 438) (name (codes "s29") 439)
-    (Some (field.Datums (data'.Int (at 441)) ((name (codes "a") 442) ∷ []) ∷ []))
-    ∷ item.Struct (at 446) (name (codes "s30") 447)
-    (Some (field.Datums (data'.Int (at 449)) ((name (codes "a") 450) ∷ []) ∷ []))
-    ∷ item.Struct (at 454) (name (codes "s31") 455)
-    (Some (field.Datums (data'.Int (at 457)) ((name (codes "a") 458) ∷ []) ∷ []))
-    ∷ item.Struct (at 462) (name (codes "s0") 463)
-    (Some (field.Datums (data'.Int (at 465)) ((name (codes "a") 466) ∷ []) ∷ [])) ∷ []) 470) ≡ Rule 5 (at 463)
+structs_33_again : breaches (unit (main_item ∷ structs 32 0 206 ++ structs 1 0 462) 470) ≡ Rule 5 (at 463)
     ∷ Limit 2 (at 463) ∷ []
 unfolding breaches site_breaches
 structs_33_again = simp layers refl

@@ -2,15 +2,14 @@ use Rattle.std.proofs.Common.{◌≡◌, ◌+◌, OnOk, true, drop, sym, ap, sub
 use Rattle.c_ast.specs.declared.statements.Block.{out-Block}
 use Rattle.c_typing.specs.BodySites.{maybe_sites, first_sites, part_sites, parts_sites, stmt_sites, other_sites}
 use Rattle.c_typing.specs.Sites.{Jumps, cond_sites, simple_sites}
-use Rattle.c_typing.specs.Scopes.{Scope, past_parts, past_stmt, past_first, opened, closed}
+use Rattle.c_typing.specs.Scopes.{Scope, past_parts, past_stmt, past_first, opened, closed, outer}
 use Rattle.c_typing.proofs.ScopeLayers.{past-For-stmt, past-parts}
 use Rattle.c_typing.proofs.SiteLayers.{part-Declare, part-Stmt, block-parts, stmt-Empty, stmt-Block, stmt-Simple}
 use Rattle.c_typing.proofs.SiteLayers.{stmt-While, stmt-Do, stmt-For, stmt-Return, stmt-Break, stmt-Continue}
 use Rattle.c_typing.proofs.SiteLayers.{stmt-Assert, stmt-If}
 use Rattle.c_expressions.specs.Meeting.{met}
-use Rattle.c_scopes.specs.InScope.{outer}
-use Rattle.c_making.proofs.ScopeSteps.{home-past_first, home-past_parts, home-past_stmt, left_closed}
-use Rattle.c_making.proofs.ScopeSteps.{outer-past_first, past_step}
+use Rattle.c_typing.proofs.ScopeLaws.{home-past_first, home-past_parts, home-past_stmt}
+use Rattle.c_making.proofs.ScopeSteps.{left_closed, outer-past_first, past_step}
 use Rattle.c_expressions.proofs.MeetingLemmas.{met-nil, met-one}
 use Rattle.c_bodies.proofs.StatementLemmas.{whole, both, both_turned, all_three, after_one, after_two}
 use Rattle.c_bodies.proofs.StatementLemmas.{parts_step, parts_end}

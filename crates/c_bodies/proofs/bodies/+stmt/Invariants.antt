@@ -1,8 +1,7 @@
 use Rattle.std.proofs.Common.{◌≡◌, drop}
 use Rattle.c_typing.specs.BodySites.{parts_sites}
-use Rattle.c_typing.specs.Scopes.{past_parts}
+use Rattle.c_typing.specs.Scopes.{outer, past_parts}
 use Rattle.c_expressions.specs.Meeting.{met}
-use Rattle.c_scopes.specs.InScope.{outer}
 use Rattle.c_bodies.proofs.bodies.«+stmt».Given as goal
 
 abbrev pub invariant-parts_faults-loop-part : goal.invariant-parts_faults-loop-part

@@ -2,7 +2,8 @@ use Rattle.std.proofs.Common.{◌+◌, ◌++◌, length, List, drop, sym, ap, �
 use Rattle.std.proofs.lemmas.List.{at_drop_all}
 use Rattle.c_ast.specs.declared.items.Field.{Field}
 use Rattle.c_typing.specs.ItemSites.{field_type_sites, names_of}
-use Rattle.c_check.specs.inner.Items.{kept_fields_sites, kept_member_sites, with_names}
+use Rattle.c_typing.specs.declared.meaning.Family.TheVariants.{Member}
+use Rattle.c_check.specs.inner.Items.{kept_fields_sites, kept_name_sites, with_names}
 use Rattle.c_expressions.specs.Meeting.{met}
 use Rattle.c_making.proofs.MakingLemmas.{turn}
 use Rattle.c_expressions.proofs.MeetingLemmas.{met-append, met-nil}
@@ -16,7 +17,7 @@ loop-field-preserved c =
     let count = c.loop-field.count in
     let field = c.field-item.result in
     let types = field_type_sites field in
-    let members = kept_member_sites names count (names_of field) in
+    let members = kept_name_sites Member names count (names_of field) in
     let rest = kept_fields_sites (with_names names (names_of field)) (count + length (names_of field))
     (drop (c.loop-field.field-index + 1) c.args.fields.now) in
     rw (c.in_ok-count.ensures.names, c.in_ok-count.ensures.found, c.in_ok-count.ensures.count)

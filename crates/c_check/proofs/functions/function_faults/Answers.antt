@@ -1,8 +1,7 @@
 use Rattle.std.proofs.Common.{false, sym, ap, ◌∙◌}
 use Rattle.c_typing.specs.BodySites.{block_places, block_sites}
-use Rattle.c_typing.specs.Scopes.{Scope, outside, past_block}
+use Rattle.c_typing.specs.Scopes.{Scope, outer, outside, past_block}
 use Rattle.c_typing.specs.Sites.{Counts}
-use Rattle.c_scopes.specs.InScope.{outer}
 use Rattle.c_expressions.specs.Meeting.{met}
 use Rattle.c_expressions.proofs.MeetingLemmas.{met-one}
 use Rattle.c_making.proofs.FunctionLemmas.{outer-past_head}

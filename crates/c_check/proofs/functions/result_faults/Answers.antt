@@ -1,7 +1,8 @@
 use Rattle.std.proofs.Common.{List, Option, [], map, sym, ap, ◌∙◌}
 use Rattle.c_typing.specs.ItemSites.{result_sites}
 use Rattle.c_typing.specs.Scopes.{Var, declared_so_far, innermost, var_name}
-use Rattle.c_typing.specs.Sites.{Defines, Variable}
+use Rattle.c_typing.specs.Sites.{Defines}
+use Rattle.c_typing.specs.declared.meaning.Family.TheVariants.{Variable}
 use Rattle.c_typing.specs.declared.meaning.Kind.{Kind}
 use Rattle.c_expressions.specs.Meeting.{met, noted}
 use Rattle.c_expressions.proofs.MeetingLemmas.{met-one}

@@ -3,7 +3,8 @@ use Rattle.std.proofs.lemmas.List.{at_drop_all}
 use Rattle.c_ast.specs.declared.items.Param.{Param}
 use Rattle.c_typing.specs.ItemSites.{param_sites}
 use Rattle.c_typing.specs.Scopes.{param_name}
-use Rattle.c_typing.specs.Sites.{Defines, Parameter}
+use Rattle.c_typing.specs.Sites.{Defines}
+use Rattle.c_typing.specs.declared.meaning.Family.TheVariants.{Parameter}
 use Rattle.c_check.specs.inner.Items.{kept_params_sites, with_name}
 use Rattle.c_expressions.specs.Meeting.{met}
 use Rattle.c_making.proofs.MakingLemmas.{turn}

@@ -1,4 +1,5 @@
 use Rattle.std.proofs.Common.{◌≡◌, ◌+◌, ◌||◌, Bool, true, false, List, drop, refl, sym, ap, ◌∙◌}
+use Rattle.std.proofs.Math.Bool.{or-false, or_assoc}
 use Rattle.std.proofs.lemmas.List.{at_drop_all}
 use Rattle.c_ast.specs.declared.items.Item.{Item}
 use Rattle.c_typing.specs.Scopes.{past_item}
@@ -7,14 +8,6 @@ use Rattle.c_expressions.specs.Meeting.{met}
 use Rattle.c_making.proofs.MakingLemmas.{turn}
 use Rattle.c_expressions.proofs.MeetingLemmas.{met-append, met-nil}
 use Rattle.c_check.proofs.items.items_in_order.Goals as goal
-
-or_or : (a b c : Bool) → ((a || b) || c) ≡ (a || (b || c))
-or_or true b c = refl
-or_or false b c = refl
-
-or_false : (a : Bool) → (a || false) ≡ a
-or_false true = refl
-or_false false = refl
 
 pub loop-item-preserved : goal.loop-item-preserved
 loop-item-preserved c =
@@ -41,7 +34,7 @@ loop-item-preserved c =
           c.loop-item-test.true c.item-item.is
           ∙ c.loop-item.invariant.found);
       main = ap (λ b. b || any_main rest) c.in_ok-main.ensures.main
-          ∙ or_or main (is_main_item item) (any_main rest)
+          ∙ or_assoc main (is_main_item item) (any_main rest)
           ∙ turn (λ (is : List Item). main || any_main is) items i item c.loop-item-test.true c.item-item.is
           ∙ c.loop-item.invariant.main;
     }
@@ -61,5 +54,5 @@ returns-clause-main c =
     sym
     (at_drop_all (λ (is : List Item). c.loop-item.main || any_main is) c.args.items.now c.loop-item.item-index
     c.loop-item-test.false
-    ∙ or_false c.loop-item.main)
+    ∙ or-false c.loop-item.main)
     ∙ c.loop-item.invariant.main

@@ -4,16 +4,15 @@ use Rattle.c_ast.specs.declared.statements.Block.{out-Block}
 use Rattle.c_types.specs.declared.program.Stmt.{Stmt}
 use Rattle.c_types.specs.declared.program.Stmt.TheVariants.{Branch, While, DoWhile}
 use Rattle.c_typing.specs.Programs.{cond_of, grouped, part_stmts, parts_stmts, simple_stmts, stmt_stmts, other_stmts}
-use Rattle.c_typing.specs.Scopes.{Scope, opened, closed, past_first, past_parts, past_stmt}
+use Rattle.c_typing.specs.Scopes.{Scope, opened, outer, closed, past_first, past_parts, past_stmt}
 use Rattle.c_typing.proofs.ProgramLayers.{made-Declare, made-Stmt, made-parts, made-Empty-stmt, made-Block-stmt}
 use Rattle.c_typing.proofs.ProgramLayers.{made-Simple-stmt, made-While-stmt, made-Do-stmt, made-For-stmt}
 use Rattle.c_typing.proofs.ProgramLayers.{made-Return-stmt, made-Break-stmt, made-Continue-stmt, made-Assert-stmt}
 use Rattle.c_typing.proofs.ProgramLayers.{made-If-stmt}
 use Rattle.c_typing.proofs.ScopeLayers.{past-For-stmt, past-parts}
 use Rattle.c_making.specs.inner.Making.{first_stmts, for_body, for_made, group_first, past_for}
-use Rattle.c_scopes.specs.InScope.{outer}
-use Rattle.c_making.proofs.ScopeSteps.{home-past_first, home-past_parts, home-past_stmt, left_closed}
-use Rattle.c_making.proofs.ScopeSteps.{outer-past_first, past_step}
+use Rattle.c_typing.proofs.ScopeLaws.{home-past_first, home-past_parts, home-past_stmt}
+use Rattle.c_making.proofs.ScopeSteps.{left_closed, outer-past_first, past_step}
 use Rattle.c_making.proofs.MakingLemmas.{made_as, stmts_step, same_group, for_as}
 use Rattle.c_making.proofs.statements.«+make».Goals as goal
 

@@ -1,7 +1,6 @@
 use Rattle.std.proofs.Common.{◌≡◌, ◌++◌, drop}
 use Rattle.c_typing.specs.Programs.{parts_stmts}
-use Rattle.c_typing.specs.Scopes.{past_parts}
-use Rattle.c_scopes.specs.InScope.{outer}
+use Rattle.c_typing.specs.Scopes.{outer, past_parts}
 use Rattle.c_making.proofs.statements.«+make».Given as goal
 
 abbrev pub invariant-parts_stmts-loop-part : goal.invariant-parts_stmts-loop-part

@@ -1,19 +1,16 @@
-use Rattle.std.proofs.Common.{refl}
+use Rattle.std.proofs.Common.{false, refl}
 use Rattle.c_grammar.specs.Items as i
-use Rattle.c_grammar.specs.Syntax as s
 use Rattle.c_grammar.specs.declared.signs.Sign.TheVariants as sign
-use Rattle.c_grammar.specs.words.Sets.{no_sign}
 use Rattle.c_reader.specs.Bounds.{Stops}
-use Rattle.c_parser.specs.inner.Shapes.{read_datum_field, read_next_name}
-use Rattle.c_grammar.proofs.Goods.{good_one, good_name}
-use Rattle.c_grammar.proofs.Items.{good_more_names, good_names}
-use Rattle.c_grammar.proofs.Leasts.{least_name}
-use Rattle.c_grammar.proofs.Parts.{takes_made, fails_made, takes_token, alive_made}
-use Rattle.c_grammar.proofs.Repeats.{least_many}
+use Rattle.c_parser.specs.inner.Shapes.{read_datum_field}
+use Rattle.c_grammar.proofs.Goods.{good_one}
+use Rattle.c_grammar.proofs.Items.{good_names}
+use Rattle.c_grammar.proofs.Parts.{takes_made, fails_made, takes_token}
 use Rattle.c_grammar.proofs.Sequences.{least_one, least_pair}
 use Rattle.c_grammar.proofs.Statements.{good_data}
 use Rattle.c_grammar.proofs.Steps.{passed, pair, in_front, in_back, widen_takes, widen_fails, good_pair}
 use Rattle.c_grammar.proofs.Tokens.{fails_one, real}
+use Rattle.c_parser.proofs.FieldForms.{least_names}
 use Rattle.c_parser.proofs.fields.datum_field.Goals as goal
 
 pub returns-in_err-data-clause-err : goal.returns-in_err-data-clause-err
@@ -23,9 +20,7 @@ returns-in_err-data-clause-err c =
     (widen_fails _ _ _ refl refl refl
     (fails_made i.datum_fields_of _
     (in_front good_data (good_pair good_names (good_one sign.Semicolon) refl) refl refl
-    (least_pair good_names (good_one sign.Semicolon) refl refl _
-    (alive_made s.joined
-    (least_pair good_name good_more_names refl refl _ (least_name _) (least_many read_next_name.rule no_sign _)))
+    (least_pair good_names (good_one sign.Semicolon) refl refl _ (least_names false _)
     (least_one sign.Semicolon (real sign.Semicolon tt) _)) c.in_err-data.ensures.err)))
 
 pub returns-in_err-fields-clause-err : goal.returns-in_err-fields-clause-err

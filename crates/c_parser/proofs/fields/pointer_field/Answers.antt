@@ -1,70 +1,39 @@
-use Rattle.std.proofs.Common.{refl}
+use Rattle.std.proofs.Common.{true, refl}
 use Rattle.c_grammar.specs.Items as i
-use Rattle.c_grammar.specs.Syntax as s
-use Rattle.c_grammar.specs.Syntax.{at_of}
 use Rattle.c_grammar.specs.declared.signs.Sign.TheVariants as sign
-use Rattle.c_grammar.specs.words.Sets.{no_sign}
 use Rattle.c_reader.specs.Bounds.{Stops}
-use Rattle.c_parser.specs.inner.Shapes.{read_next_star, read_pointer_field}
-use Rattle.c_grammar.proofs.Goods.{good_one, good_at, good_name}
-use Rattle.c_grammar.proofs.Items.{good_more_stars, good_star_name, good_star_names}
-use Rattle.c_grammar.proofs.Leasts.{least_name}
-use Rattle.c_grammar.proofs.Parts.{takes_made, fails_made, takes_token, alive_made}
-use Rattle.c_grammar.proofs.Repeats.{least_many}
+use Rattle.c_parser.specs.inner.Shapes.{read_pointer_field}
+use Rattle.c_grammar.proofs.Goods.{good_one}
+use Rattle.c_grammar.proofs.Heads.{apart, same_apart}
+use Rattle.c_grammar.proofs.Items.{good_star_names}
+use Rattle.c_grammar.proofs.Parts.{takes_made, fails_made, takes_same, fails_same, takes_token}
 use Rattle.c_grammar.proofs.Sequences.{least_one, least_pair}
 use Rattle.c_grammar.proofs.Steps.{passed, pair, in_front, in_back, widen_takes, widen_fails, good_pair}
-use Rattle.c_grammar.proofs.Tokens.{fails_one, takes_at, takes_name, real}
+use Rattle.c_grammar.proofs.Tokens.{fails_one, real}
+use Rattle.c_statements.proofs.Words.{good_named}
+use Rattle.c_parser.proofs.FieldForms.{least_names}
 use Rattle.c_parser.proofs.fields.pointer_field.Goals as goal
 
-pub returns-in_err-token-clause-err : goal.returns-in_err-token-clause-err
-returns-in_err-token-clause-err c =
-    passed c.from_residual.result (Stops read_pointer_field c.args.bounds.now c.args.left.now) c.in_err-token.field-0.0
-    c.from_residual.ensures.1
+pub returns-in_err-head-clause-err : goal.returns-in_err-head-clause-err
+returns-in_err-head-clause-err c =
+    passed c.from_residual.result (Stops read_pointer_field c.args.bounds.now c.args.left.now)
+    c.in_err-head.field-0.0 c.from_residual.ensures.1
+    (fails_same (same_apart i.pointer_fields_of) _
     (widen_fails _ _ _ refl refl refl
-    (fails_made i.pointer_fields_of _
-    (in_front (good_at sign.Struct)
-    (good_pair good_name (good_pair good_star_names (good_one sign.Semicolon) refl) refl) refl refl
-    (least_pair good_name (good_pair good_star_names (good_one sign.Semicolon) refl) refl refl _ (least_name _)
-    (least_pair good_star_names (good_one sign.Semicolon) refl refl _
-    (alive_made s.joined
-    (least_pair good_star_name good_more_stars refl refl _
-    (alive_made s.second
-    (least_pair (good_one sign.Star) good_name refl refl _ (least_one sign.Star (real sign.Star tt) _)
-    (least_name _))) (least_many read_next_star.rule no_sign _)))
-    (least_one sign.Semicolon (real sign.Semicolon tt) _)))
-    (fails_made at_of _
-    (fails_one sign.Struct (real sign.Struct tt) _ _ _ _ c.in_err-token.ensures.err.0
-    c.in_err-token.ensures.err.1)))))
-
-pub returns-in_err-name-clause-err : goal.returns-in_err-name-clause-err
-returns-in_err-name-clause-err c =
-    passed c.from_residual-in_err-name.result (Stops read_pointer_field c.args.bounds.now c.args.left.now)
-    c.in_err-name.field-0.0 c.from_residual-in_err-name.ensures.1
-    (widen_fails _ _ _ refl refl refl
-    (fails_made i.pointer_fields_of _
-    (in_back (good_at sign.Struct)
-    (good_pair good_name (good_pair good_star_names (good_one sign.Semicolon) refl) refl) refl refl refl
-    (takes_at sign.Struct _ _ _ _ c.in_ok-token.ensures.ok.0 c.in_ok-token.ensures.ok.1)
-    (in_front good_name (good_pair good_star_names (good_one sign.Semicolon) refl) refl refl
-    (least_pair good_star_names (good_one sign.Semicolon) refl refl _
-    (alive_made s.joined
-    (least_pair good_star_name good_more_stars refl refl _
-    (alive_made s.second
-    (least_pair (good_one sign.Star) good_name refl refl _ (least_one sign.Star (real sign.Star tt) _)
-    (least_name _))) (least_many read_next_star.rule no_sign _)))
-    (least_one sign.Semicolon (real sign.Semicolon tt) _)) c.in_err-name.ensures.err))))
+    (fails_made (apart i.pointer_fields_of) _
+    (in_front (good_named sign.Struct) (good_pair good_star_names (good_one sign.Semicolon) refl) refl refl
+    (least_pair good_star_names (good_one sign.Semicolon) refl refl _ (least_names true _)
+    (least_one sign.Semicolon (real sign.Semicolon tt) _)) c.in_err-head.ensures.err))))
 
 pub returns-in_err-fields-clause-err : goal.returns-in_err-fields-clause-err
 returns-in_err-fields-clause-err c =
     passed c.from_residual-in_err-fields.result (Stops read_pointer_field c.args.bounds.now c.args.left.now)
     c.in_err-fields.field-0.0 c.from_residual-in_err-fields.ensures.1
+    (fails_same (same_apart i.pointer_fields_of) _
     (widen_fails _ _ _ refl refl refl
-    (fails_made i.pointer_fields_of _
-    (in_back (good_at sign.Struct)
-    (good_pair good_name (good_pair good_star_names (good_one sign.Semicolon) refl) refl) refl refl refl
-    (takes_at sign.Struct _ _ _ _ c.in_ok-token.ensures.ok.0 c.in_ok-token.ensures.ok.1)
-    (in_back good_name (good_pair good_star_names (good_one sign.Semicolon) refl) refl refl refl
-    (takes_name _ _ _ _ c.in_ok-name.ensures.ok)
+    (fails_made (apart i.pointer_fields_of) _
+    (in_back (good_named sign.Struct) (good_pair good_star_names (good_one sign.Semicolon) refl) refl refl refl
+    c.in_ok-head.ensures.ok
     (in_front good_star_names (good_one sign.Semicolon) refl refl
     (least_one sign.Semicolon (real sign.Semicolon tt) _) c.in_err-fields.ensures.err)))))
 
@@ -72,23 +41,20 @@ pub returns-in_err-rest-clause-err : goal.returns-in_err-rest-clause-err
 returns-in_err-rest-clause-err c =
     passed c.from_residual-in_err-rest.result (Stops read_pointer_field c.args.bounds.now c.args.left.now)
     c.in_err-rest.field-0.0 c.from_residual-in_err-rest.ensures.1
+    (fails_same (same_apart i.pointer_fields_of) _
     (widen_fails _ _ _ refl refl refl
-    (fails_made i.pointer_fields_of _
-    (in_back (good_at sign.Struct)
-    (good_pair good_name (good_pair good_star_names (good_one sign.Semicolon) refl) refl) refl refl refl
-    (takes_at sign.Struct _ _ _ _ c.in_ok-token.ensures.ok.0 c.in_ok-token.ensures.ok.1)
-    (in_back good_name (good_pair good_star_names (good_one sign.Semicolon) refl) refl refl refl
-    (takes_name _ _ _ _ c.in_ok-name.ensures.ok)
+    (fails_made (apart i.pointer_fields_of) _
+    (in_back (good_named sign.Struct) (good_pair good_star_names (good_one sign.Semicolon) refl) refl refl refl
+    c.in_ok-head.ensures.ok
     (in_back good_star_names (good_one sign.Semicolon) refl refl refl c.in_ok-fields.ensures.ok
     (fails_one sign.Semicolon (real sign.Semicolon tt) _ _ _ _ c.in_err-rest.ensures.err.0
     c.in_err-rest.ensures.err.1))))))
 
 pub returns-clause-ok : goal.returns-clause-ok
-returns-clause-ok c = widen_takes _ _ refl refl
-    (takes_made i.pointer_fields_of
-    (pair (good_at sign.Struct) (good_pair good_name (good_pair good_star_names (good_one sign.Semicolon) refl) refl)
-    refl (takes_at sign.Struct _ _ _ _ c.in_ok-token.ensures.ok.0 c.in_ok-token.ensures.ok.1)
-    (pair good_name (good_pair good_star_names (good_one sign.Semicolon) refl) refl
-    (takes_name _ _ _ _ c.in_ok-name.ensures.ok)
+returns-clause-ok c = takes_same (same_apart i.pointer_fields_of)
+    (widen_takes _ _ refl refl
+    (takes_made (apart i.pointer_fields_of)
+    (pair (good_named sign.Struct) (good_pair good_star_names (good_one sign.Semicolon) refl) refl
+    c.in_ok-head.ensures.ok
     (pair good_star_names (good_one sign.Semicolon) refl c.in_ok-fields.ensures.ok
     (takes_token sign.Semicolon _ _ _ _ c.in_ok-rest.ensures.ok.0 c.in_ok-rest.ensures.ok.1)))))

@@ -1,56 +1,40 @@
 use Rattle.std.proofs.Common.{refl}
 use Rattle.c_grammar.specs.Items as i
-use Rattle.c_grammar.specs.Syntax.{at_of}
 use Rattle.c_grammar.specs.declared.signs.Sign.TheVariants as sign
 use Rattle.c_reader.specs.Bounds.{Stops}
 use Rattle.c_parser.specs.inner.Shapes.{read_pointer_type}
-use Rattle.c_grammar.proofs.Goods.{good_one, good_at, good_name}
-use Rattle.c_grammar.proofs.Leasts.{least_name}
-use Rattle.c_grammar.proofs.Parts.{takes_made, fails_made, takes_token}
-use Rattle.c_grammar.proofs.Sequences.{least_one, least_pair}
-use Rattle.c_grammar.proofs.Steps.{passed, pair, in_front, in_back, widen_takes, widen_fails, good_pair}
-use Rattle.c_grammar.proofs.Tokens.{fails_one, takes_at, takes_name, real}
+use Rattle.c_grammar.proofs.Goods.{good_one}
+use Rattle.c_grammar.proofs.Heads.{apart, same_apart}
+use Rattle.c_grammar.proofs.Parts.{takes_made, fails_made, takes_same, fails_same, takes_token}
+use Rattle.c_grammar.proofs.Sequences.{least_one}
+use Rattle.c_grammar.proofs.Steps.{passed, pair, in_front, in_back, widen_takes, widen_fails}
+use Rattle.c_grammar.proofs.Tokens.{fails_one, real}
+use Rattle.c_statements.proofs.Words.{good_named}
 use Rattle.c_parser.proofs.heads.pointer_type.Goals as goal
 
-pub returns-in_err-token-clause-err : goal.returns-in_err-token-clause-err
-returns-in_err-token-clause-err c =
-    passed c.from_residual.result (Stops read_pointer_type c.args.bounds.now c.args.left.now) c.in_err-token.field-0.0
+pub returns-in_err-head-clause-err : goal.returns-in_err-head-clause-err
+returns-in_err-head-clause-err c =
+    passed c.from_residual.result (Stops read_pointer_type c.args.bounds.now c.args.left.now) c.in_err-head.field-0.0
     c.from_residual.ensures.1
+    (fails_same (same_apart i.return_pointer_of) _
     (widen_fails _ _ _ refl refl refl
-    (fails_made i.return_pointer_of _
-    (in_front (good_at sign.Struct) (good_pair good_name (good_one sign.Star) refl) refl refl
-    (least_pair good_name (good_one sign.Star) refl refl _ (least_name _)
-    (least_one sign.Star (real sign.Star tt) _))
-    (fails_made at_of _
-    (fails_one sign.Struct (real sign.Struct tt) _ _ _ _ c.in_err-token.ensures.err.0
-    c.in_err-token.ensures.err.1)))))
-
-pub returns-in_err-shape-clause-err : goal.returns-in_err-shape-clause-err
-returns-in_err-shape-clause-err c =
-    passed c.from_residual-in_err-shape.result (Stops read_pointer_type c.args.bounds.now c.args.left.now)
-    c.in_err-shape.field-0.0 c.from_residual-in_err-shape.ensures.1
-    (widen_fails _ _ _ refl refl refl
-    (fails_made i.return_pointer_of _
-    (in_back (good_at sign.Struct) (good_pair good_name (good_one sign.Star) refl) refl refl refl
-    (takes_at sign.Struct _ _ _ _ c.in_ok-token.ensures.ok.0 c.in_ok-token.ensures.ok.1)
-    (in_front good_name (good_one sign.Star) refl refl (least_one sign.Star (real sign.Star tt) _)
-    c.in_err-shape.ensures.err))))
+    (fails_made (apart i.return_pointer_of) _
+    (in_front (good_named sign.Struct) (good_one sign.Star) refl refl (least_one sign.Star (real sign.Star tt) _)
+    c.in_err-head.ensures.err))))
 
 pub returns-in_err-rest-clause-err : goal.returns-in_err-rest-clause-err
 returns-in_err-rest-clause-err c =
     passed c.from_residual-in_err-rest.result (Stops read_pointer_type c.args.bounds.now c.args.left.now)
     c.in_err-rest.field-0.0 c.from_residual-in_err-rest.ensures.1
+    (fails_same (same_apart i.return_pointer_of) _
     (widen_fails _ _ _ refl refl refl
-    (fails_made i.return_pointer_of _
-    (in_back (good_at sign.Struct) (good_pair good_name (good_one sign.Star) refl) refl refl refl
-    (takes_at sign.Struct _ _ _ _ c.in_ok-token.ensures.ok.0 c.in_ok-token.ensures.ok.1)
-    (in_back good_name (good_one sign.Star) refl refl refl (takes_name _ _ _ _ c.in_ok-shape.ensures.ok)
+    (fails_made (apart i.return_pointer_of) _
+    (in_back (good_named sign.Struct) (good_one sign.Star) refl refl refl c.in_ok-head.ensures.ok
     (fails_one sign.Star (real sign.Star tt) _ _ _ _ c.in_err-rest.ensures.err.0 c.in_err-rest.ensures.err.1)))))
 
 pub returns-clause-ok : goal.returns-clause-ok
-returns-clause-ok c = widen_takes _ _ refl refl
-    (takes_made i.return_pointer_of
-    (pair (good_at sign.Struct) (good_pair good_name (good_one sign.Star) refl) refl
-    (takes_at sign.Struct _ _ _ _ c.in_ok-token.ensures.ok.0 c.in_ok-token.ensures.ok.1)
-    (pair good_name (good_one sign.Star) refl (takes_name _ _ _ _ c.in_ok-shape.ensures.ok)
+returns-clause-ok c = takes_same (same_apart i.return_pointer_of)
+    (widen_takes _ _ refl refl
+    (takes_made (apart i.return_pointer_of)
+    (pair (good_named sign.Struct) (good_one sign.Star) refl c.in_ok-head.ensures.ok
     (takes_token sign.Star _ _ _ _ c.in_ok-rest.ensures.ok.0 c.in_ok-rest.ensures.ok.1))))

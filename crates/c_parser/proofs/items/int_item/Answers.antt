@@ -1,62 +1,28 @@
 use Rattle.std.proofs.Common.{refl}
-use Rattle.c_ast.specs.declared.statements.Data.TheVariants as data'
-use Rattle.c_grammar.specs.Syntax.{at_of}
 use Rattle.c_grammar.specs.declared.signs.Sign.TheVariants as sign
-use Rattle.c_grammar.specs.words.Parted.{Rest, data_item, int_of}
+use Rattle.c_grammar.specs.words.Parted.{int_of}
 use Rattle.c_reader.specs.Bounds.{Stops}
 use Rattle.c_parser.specs.inner.Shapes.{read_int_item}
 use Rattle.c_grammar.proofs.ItemLeasts.{least_data_rest}
-use Rattle.c_grammar.proofs.Goods.{good_at, good_name}
 use Rattle.c_grammar.proofs.Items.{good_data_rest}
-use Rattle.c_grammar.proofs.Leasts.{least_name}
-use Rattle.c_grammar.proofs.Parts.{takes_made, fails_made}
-use Rattle.c_grammar.proofs.Sequences.{takes_as, least_pair, takes_unmade, fails_unmade}
-use Rattle.c_grammar.proofs.Steps.{passed, pair, in_front, in_back, widen_takes, widen_fails, good_pair}
-use Rattle.c_grammar.proofs.Tokens.{fails_one, takes_at, takes_name, real}
+use Rattle.c_grammar.proofs.Steps.{passed}
+use Rattle.c_grammar.proofs.Tokens.{real}
+use Rattle.c_parser.proofs.NamedItems.{head_fails, rest_fails, rest_takes}
 use Rattle.c_parser.proofs.items.int_item.Goals as goal
 
-pub returns-in_err-token-clause-err : goal.returns-in_err-token-clause-err
-returns-in_err-token-clause-err c =
-    passed c.from_residual.result (Stops read_int_item c.args.bounds.now c.args.left.now) c.in_err-token.field-0.0
+pub returns-in_err-head-clause-err : goal.returns-in_err-head-clause-err
+returns-in_err-head-clause-err c =
+    passed c.from_residual.result (Stops read_int_item c.args.bounds.now c.args.left.now) c.in_err-head.field-0.0
     c.from_residual.ensures.1
-    (widen_fails _ _ _ refl refl refl
-    (fails_made int_of _
-    (in_front (good_at sign.Int) (good_pair good_name good_data_rest refl) refl refl
-    (least_pair good_name good_data_rest refl refl _ (least_name _) (least_data_rest _))
-    (fails_made at_of _
-    (fails_one sign.Int (real sign.Int tt) _ _ _ _ c.in_err-token.ensures.err.0 c.in_err-token.ensures.err.1)))))
-
-pub returns-in_err-name-clause-err : goal.returns-in_err-name-clause-err
-returns-in_err-name-clause-err c =
-    passed c.from_residual-in_err-name.result (Stops read_int_item c.args.bounds.now c.args.left.now)
-    c.in_err-name.field-0.0 c.from_residual-in_err-name.ensures.1
-    (widen_fails _ _ _ refl refl refl
-    (fails_made int_of _
-    (in_back (good_at sign.Int) (good_pair good_name good_data_rest refl) refl refl refl
-    (takes_at sign.Int _ _ _ _ c.in_ok-token.ensures.ok.0 c.in_ok-token.ensures.ok.1)
-    (in_front good_name good_data_rest refl refl (least_data_rest _) c.in_err-name.ensures.err))))
+    (head_fails sign.Int (real sign.Int tt) good_data_rest refl int_of (least_data_rest _) c.in_err-head.ensures.err)
 
 pub returns-in_err-item-clause-err : goal.returns-in_err-item-clause-err
 returns-in_err-item-clause-err c =
     passed c.from_residual-in_err-item.result (Stops read_int_item c.args.bounds.now c.args.left.now)
     c.in_err-item.field-0.0 c.from_residual-in_err-item.ensures.1
-    (widen_fails _ _ _ refl refl refl
-    (fails_made int_of _
-    (in_back (good_at sign.Int) (good_pair good_name good_data_rest refl) refl refl refl
-    (takes_at sign.Int _ _ _ _ c.in_ok-token.ensures.ok.0 c.in_ok-token.ensures.ok.1)
-    (in_back good_name good_data_rest refl refl refl (takes_name _ _ _ _ c.in_ok-name.ensures.ok)
-    (fails_unmade good_data_rest
-    (λ (q : Rest). data_item (data'.Int c.in_ok-token.token.now.at) c.in_ok-name.name q) refl _
-    c.in_err-item.ensures.err)))))
+    (rest_fails sign.Int (real sign.Int tt) good_data_rest refl int_of c.in_ok-head.ensures.ok
+    c.in_err-item.ensures.err)
 
 pub returns-clause-ok : goal.returns-clause-ok
-returns-clause-ok c = takes_as _
-    (takes_unmade good_data_rest (λ (q : Rest). data_item (data'.Int c.in_ok-token.token.now.at) c.in_ok-name.name q)
-    c.in_ok-item.ensures.ok).1
-    (widen_takes _ _ refl refl
-    (takes_made int_of
-    (pair (good_at sign.Int) (good_pair good_name good_data_rest refl) refl
-    (takes_at sign.Int _ _ _ _ c.in_ok-token.ensures.ok.0 c.in_ok-token.ensures.ok.1)
-    (pair good_name good_data_rest refl (takes_name _ _ _ _ c.in_ok-name.ensures.ok)
-    (takes_unmade good_data_rest (λ (q : Rest). data_item (data'.Int c.in_ok-token.token.now.at) c.in_ok-name.name q)
-    c.in_ok-item.ensures.ok).2))))
+returns-clause-ok c = rest_takes sign.Int (real sign.Int tt) good_data_rest refl int_of c.in_ok-head.ensures.ok
+    c.in_ok-item.ensures.ok

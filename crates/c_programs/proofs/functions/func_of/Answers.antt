@@ -1,6 +1,5 @@
 use Rattle.std.proofs.Common.{◌≡◌, ap, ◌∙◌}
-use Rattle.c_typing.specs.Scopes.{Scope}
-use Rattle.c_scopes.specs.InScope.{outer}
+use Rattle.c_typing.specs.Scopes.{Scope, outer}
 use Rattle.c_making.proofs.FunctionLemmas.{outer-past_head}
 use Rattle.c_programs.proofs.ProgramLemmas.{on_ok_at}
 use Rattle.c_programs.proofs.functions.func_of.Goals as goal

@@ -1,18 +1,15 @@
-use Rattle.std.proofs.Common.{refl}
+use Rattle.std.proofs.Common.{false, refl}
 use Rattle.c_grammar.specs.Syntax as s
 use Rattle.c_grammar.specs.declared.signs.Sign.TheVariants as sign
-use Rattle.c_grammar.specs.words.Sets.{no_sign}
 use Rattle.c_reader.specs.Bounds.{Stops}
-use Rattle.c_statements.specs.Shapes.{read_datum_declare, read_next_declarator}
-use Rattle.c_grammar.proofs.Goods.{good_one, good_name}
-use Rattle.c_grammar.proofs.Items.{good_more_declarators}
-use Rattle.c_grammar.proofs.Leasts.{least_name, least_absent}
-use Rattle.c_grammar.proofs.Parts.{takes_made, fails_made, takes_token, alive_made}
-use Rattle.c_grammar.proofs.Repeats.{least_many}
+use Rattle.c_statements.specs.Shapes.{read_datum_declare}
+use Rattle.c_grammar.proofs.Goods.{good_one}
+use Rattle.c_grammar.proofs.Parts.{takes_made, fails_made, takes_token}
 use Rattle.c_grammar.proofs.Sequences.{least_one, least_pair}
-use Rattle.c_grammar.proofs.Statements.{good_data, good_datums, good_declarator, good_maybe_from}
+use Rattle.c_grammar.proofs.Statements.{good_data, good_datums}
 use Rattle.c_grammar.proofs.Steps.{passed, pair, in_front, in_back, widen_takes, widen_fails, good_pair}
 use Rattle.c_grammar.proofs.Tokens.{fails_one, real}
+use Rattle.c_statements.proofs.Declarators.{least_declarators}
 use Rattle.c_statements.proofs.declarations.datum_declare.Goals as goal
 
 pub returns-in_err-data-clause-err : goal.returns-in_err-data-clause-err
@@ -22,12 +19,8 @@ returns-in_err-data-clause-err c =
     (widen_fails _ _ _ refl refl refl
     (fails_made s.datums_of _
     (in_front good_data (good_pair good_datums (good_one sign.Semicolon) refl) refl refl
-    (least_pair good_datums (good_one sign.Semicolon) refl refl _
-    (alive_made s.joined
-    (least_pair good_declarator good_more_declarators refl refl _
-    (alive_made s.declarator_of (least_pair good_name good_maybe_from refl refl _ (least_name _) (least_absent _)))
-    (least_many read_next_declarator.rule no_sign _))) (least_one sign.Semicolon (real sign.Semicolon tt) _))
-    c.in_err-data.ensures.err)))
+    (least_pair good_datums (good_one sign.Semicolon) refl refl _ (least_declarators false _)
+    (least_one sign.Semicolon (real sign.Semicolon tt) _)) c.in_err-data.ensures.err)))
 
 pub returns-in_err-vars-clause-err : goal.returns-in_err-vars-clause-err
 returns-in_err-vars-clause-err c =

@@ -1,38 +1,15 @@
 use Rattle.std.proofs.Common.{refl}
 use Rattle.c_grammar.specs.Syntax as s
-use Rattle.c_grammar.specs.Syntax.{at_of}
-use Rattle.c_grammar.specs.declared.signs.Sign.TheVariants as sign
 use Rattle.c_reader.specs.Bounds.{Stops}
 use Rattle.c_statements.specs.Shapes.{read_enum_data}
-use Rattle.c_grammar.proofs.Goods.{good_at, good_name}
-use Rattle.c_grammar.proofs.Leasts.{least_name}
 use Rattle.c_grammar.proofs.Parts.{takes_made, fails_made}
-use Rattle.c_grammar.proofs.Steps.{passed, pair, in_front, in_back, widen_takes, widen_fails}
-use Rattle.c_grammar.proofs.Tokens.{fails_one, takes_at, takes_name, real}
+use Rattle.c_grammar.proofs.Steps.{passed, widen_takes, widen_fails}
 use Rattle.c_statements.proofs.declarations.enum_data.Goals as goal
 
-pub returns-in_err-token-clause-err : goal.returns-in_err-token-clause-err
-returns-in_err-token-clause-err c =
-    passed c.from_residual.result (Stops read_enum_data c.args.bounds.now c.args.left.now) c.in_err-token.field-0.0
-    c.from_residual.ensures.1
-    (widen_fails _ _ _ refl refl refl
-    (fails_made s.enum_of _
-    (in_front (good_at sign.Enum) good_name refl refl (least_name _)
-    (fails_made at_of _
-    (fails_one sign.Enum (real sign.Enum tt) _ _ _ _ c.in_err-token.ensures.err.0 c.in_err-token.ensures.err.1)))))
-
-pub returns-in_err-name-clause-err : goal.returns-in_err-name-clause-err
-returns-in_err-name-clause-err c =
-    passed c.from_residual-in_err-name.result (Stops read_enum_data c.args.bounds.now c.args.left.now)
-    c.in_err-name.field-0.0 c.from_residual-in_err-name.ensures.1
-    (widen_fails _ _ _ refl refl refl
-    (fails_made s.enum_of _
-    (in_back (good_at sign.Enum) good_name refl refl refl
-    (takes_at sign.Enum _ _ _ _ c.in_ok-token.ensures.ok.0 c.in_ok-token.ensures.ok.1) c.in_err-name.ensures.err)))
+pub returns-in_err-head-clause-err : goal.returns-in_err-head-clause-err
+returns-in_err-head-clause-err c =
+    passed c.from_residual.result (Stops read_enum_data c.args.bounds.now c.args.left.now) c.in_err-head.field-0.0
+    c.from_residual.ensures.1 (widen_fails _ _ _ refl refl refl (fails_made s.enum_of _ c.in_err-head.ensures.err))
 
 pub returns-clause-ok : goal.returns-clause-ok
-returns-clause-ok c = widen_takes _ _ refl refl
-    (takes_made s.enum_of
-    (pair (good_at sign.Enum) good_name refl
-    (takes_at sign.Enum _ _ _ _ c.in_ok-token.ensures.ok.0 c.in_ok-token.ensures.ok.1)
-    (takes_name _ _ _ _ c.in_ok-name.ensures.ok)))
+returns-clause-ok c = widen_takes _ _ refl refl (takes_made s.enum_of c.in_ok-head.ensures.ok)

@@ -3,37 +3,36 @@ use Rattle.c_grammar.specs.Syntax as s
 use Rattle.c_grammar.specs.declared.signs.Sign.TheVariants as sign
 use Rattle.c_reader.specs.Bounds.{Stops}
 use Rattle.c_statements.specs.Shapes.{read_next_declarator}
-use Rattle.c_grammar.proofs.Goods.{good_one, good_name}
-use Rattle.c_grammar.proofs.Leasts.{least_name, least_absent}
-use Rattle.c_grammar.proofs.Parts.{takes_made, fails_made, takes_token, alive_made}
-use Rattle.c_grammar.proofs.Sequences.{least_pair}
-use Rattle.c_grammar.proofs.Statements.{good_declarator, good_maybe_from}
+use Rattle.c_grammar.proofs.Goods.{good_one}
+use Rattle.c_grammar.proofs.Parts.{takes_made, fails_made, takes_token}
 use Rattle.c_grammar.proofs.Steps.{passed, pair, in_front, in_back, widen_takes, widen_fails}
 use Rattle.c_grammar.proofs.Tokens.{fails_one, real}
+use Rattle.c_statements.proofs.Declarators.{good_init_declarator, least_init_declarator}
 use Rattle.c_statements.proofs.declarations.next_declarator.Goals as goal
 
 pub returns-in_err-rest-clause-err : goal.returns-in_err-rest-clause-err
 returns-in_err-rest-clause-err c =
-    passed c.from_residual.result (Stops read_next_declarator c.args.bounds.now c.args.left.now) c.in_err-rest.field-0.0
-    c.from_residual.ensures.1
+    passed c.from_residual.result (Stops (read_next_declarator c.args.starred) c.args.bounds.now c.args.left.now)
+    c.in_err-rest.field-0.0 c.from_residual.ensures.1
     (widen_fails _ _ _ refl refl refl
     (fails_made s.second _
-    (in_front (good_one sign.Comma) good_declarator refl refl
-    (alive_made s.declarator_of (least_pair good_name good_maybe_from refl refl _ (least_name _) (least_absent _)))
+    (in_front (good_one sign.Comma) (good_init_declarator c.args.starred) refl refl
+    (least_init_declarator c.args.starred _)
     (fails_one sign.Comma (real sign.Comma tt) _ _ _ _ c.in_err-rest.ensures.err.0 c.in_err-rest.ensures.err.1))))
 
 pub returns-in_err-declarator-clause-err : goal.returns-in_err-declarator-clause-err
 returns-in_err-declarator-clause-err c =
-    passed c.from_residual-in_err-declarator.result (Stops read_next_declarator c.args.bounds.now c.args.left.now)
-    c.in_err-declarator.field-0.0 c.from_residual-in_err-declarator.ensures.1
+    passed c.from_residual-in_err-declarator.result
+    (Stops (read_next_declarator c.args.starred) c.args.bounds.now c.args.left.now) c.in_err-declarator.field-0.0
+    c.from_residual-in_err-declarator.ensures.1
     (widen_fails _ _ _ refl refl refl
     (fails_made s.second _
-    (in_back (good_one sign.Comma) good_declarator refl refl refl
+    (in_back (good_one sign.Comma) (good_init_declarator c.args.starred) refl refl refl
     (takes_token sign.Comma _ _ _ _ c.in_ok-rest.ensures.ok.0 c.in_ok-rest.ensures.ok.1)
     c.in_err-declarator.ensures.err)))
 
 pub returns-clause-ok : goal.returns-clause-ok
 returns-clause-ok c = widen_takes _ _ refl refl
     (takes_made s.second
-    (pair (good_one sign.Comma) good_declarator refl
+    (pair (good_one sign.Comma) (good_init_declarator c.args.starred) refl
     (takes_token sign.Comma _ _ _ _ c.in_ok-rest.ensures.ok.0 c.in_ok-rest.ensures.ok.1) c.in_ok-declarator.ensures.ok))

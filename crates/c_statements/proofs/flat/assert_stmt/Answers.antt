@@ -1,62 +1,41 @@
 use Rattle.std.proofs.Common.{refl}
 use Rattle.c_grammar.specs.Syntax as s
-use Rattle.c_grammar.specs.Syntax.{at_of}
 use Rattle.c_grammar.specs.declared.signs.Sign.TheVariants as sign
 use Rattle.c_reader.specs.Bounds.{Stops}
 use Rattle.c_statements.specs.Shapes.{read_assert_stmt}
-use Rattle.c_grammar.proofs.Conditions.{least_cond}
-use Rattle.c_grammar.proofs.Goods.{good_one, good_at}
-use Rattle.c_grammar.proofs.Parts.{takes_made, fails_made, takes_token, alive_made}
-use Rattle.c_grammar.proofs.Sequences.{least_one, least_pair}
-use Rattle.c_grammar.proofs.Statements.{good_closed_cond, good_cond}
-use Rattle.c_grammar.proofs.Steps.{passed, pair, in_front, in_back, widen_takes, widen_fails, good_pair}
-use Rattle.c_grammar.proofs.Tokens.{fails_one, takes_at, real}
+use Rattle.c_grammar.proofs.Goods.{good_one}
+use Rattle.c_grammar.proofs.Heads.{apart, same_apart}
+use Rattle.c_grammar.proofs.Parts.{takes_made, fails_made, takes_same, fails_same, takes_token}
+use Rattle.c_grammar.proofs.Sequences.{least_one}
+use Rattle.c_grammar.proofs.Steps.{passed, pair, in_front, in_back, widen_takes, widen_fails}
+use Rattle.c_grammar.proofs.Tokens.{fails_one, real}
+use Rattle.c_statements.proofs.Words.{good_tested}
 use Rattle.c_statements.proofs.flat.assert_stmt.Goals as goal
 
-pub returns-in_err-token-clause-err : goal.returns-in_err-token-clause-err
-returns-in_err-token-clause-err c =
-    passed c.from_residual.result (Stops read_assert_stmt c.args.bounds.now c.args.left.now) c.in_err-token.field-0.0
+pub returns-in_err-head-clause-err : goal.returns-in_err-head-clause-err
+returns-in_err-head-clause-err c =
+    passed c.from_residual.result (Stops read_assert_stmt c.args.bounds.now c.args.left.now) c.in_err-head.field-0.0
     c.from_residual.ensures.1
+    (fails_same (same_apart s.assert_of) _
     (widen_fails _ _ _ refl refl refl
-    (fails_made s.assert_of _
-    (in_front (good_at sign.Assert) (good_pair good_closed_cond (good_one sign.Semicolon) refl) refl refl
-    (least_pair good_closed_cond (good_one sign.Semicolon) refl refl _
-    (alive_made s.middle
-    (least_pair (good_one sign.Open) (good_pair good_cond (good_one sign.Close) refl) refl refl _
-    (least_one sign.Open (real sign.Open tt) _)
-    (least_pair good_cond (good_one sign.Close) refl refl _ (least_cond _)
-    (least_one sign.Close (real sign.Close tt) _)))) (least_one sign.Semicolon (real sign.Semicolon tt) _))
-    (fails_made at_of _
-    (fails_one sign.Assert (real sign.Assert tt) _ _ _ _ c.in_err-token.ensures.err.0
-    c.in_err-token.ensures.err.1)))))
-
-pub returns-in_err-cond-clause-err : goal.returns-in_err-cond-clause-err
-returns-in_err-cond-clause-err c =
-    passed c.from_residual-in_err-cond.result (Stops read_assert_stmt c.args.bounds.now c.args.left.now)
-    c.in_err-cond.field-0.0 c.from_residual-in_err-cond.ensures.1
-    (widen_fails _ _ _ refl refl refl
-    (fails_made s.assert_of _
-    (in_back (good_at sign.Assert) (good_pair good_closed_cond (good_one sign.Semicolon) refl) refl refl refl
-    (takes_at sign.Assert _ _ _ _ c.in_ok-token.ensures.ok.0 c.in_ok-token.ensures.ok.1)
-    (in_front good_closed_cond (good_one sign.Semicolon) refl refl
-    (least_one sign.Semicolon (real sign.Semicolon tt) _) c.in_err-cond.ensures.err))))
+    (fails_made (apart s.assert_of) _
+    (in_front (good_tested sign.Assert) (good_one sign.Semicolon) refl refl
+    (least_one sign.Semicolon (real sign.Semicolon tt) _) c.in_err-head.ensures.err))))
 
 pub returns-in_err-rest-clause-err : goal.returns-in_err-rest-clause-err
 returns-in_err-rest-clause-err c =
     passed c.from_residual-in_err-rest.result (Stops read_assert_stmt c.args.bounds.now c.args.left.now)
     c.in_err-rest.field-0.0 c.from_residual-in_err-rest.ensures.1
+    (fails_same (same_apart s.assert_of) _
     (widen_fails _ _ _ refl refl refl
-    (fails_made s.assert_of _
-    (in_back (good_at sign.Assert) (good_pair good_closed_cond (good_one sign.Semicolon) refl) refl refl refl
-    (takes_at sign.Assert _ _ _ _ c.in_ok-token.ensures.ok.0 c.in_ok-token.ensures.ok.1)
-    (in_back good_closed_cond (good_one sign.Semicolon) refl refl refl c.in_ok-cond.ensures.ok
+    (fails_made (apart s.assert_of) _
+    (in_back (good_tested sign.Assert) (good_one sign.Semicolon) refl refl refl c.in_ok-head.ensures.ok
     (fails_one sign.Semicolon (real sign.Semicolon tt) _ _ _ _ c.in_err-rest.ensures.err.0
     c.in_err-rest.ensures.err.1)))))
 
 pub returns-clause-ok : goal.returns-clause-ok
-returns-clause-ok c = widen_takes _ _ refl refl
-    (takes_made s.assert_of
-    (pair (good_at sign.Assert) (good_pair good_closed_cond (good_one sign.Semicolon) refl) refl
-    (takes_at sign.Assert _ _ _ _ c.in_ok-token.ensures.ok.0 c.in_ok-token.ensures.ok.1)
-    (pair good_closed_cond (good_one sign.Semicolon) refl c.in_ok-cond.ensures.ok
+returns-clause-ok c = takes_same (same_apart s.assert_of)
+    (widen_takes _ _ refl refl
+    (takes_made (apart s.assert_of)
+    (pair (good_tested sign.Assert) (good_one sign.Semicolon) refl c.in_ok-head.ensures.ok
     (takes_token sign.Semicolon _ _ _ _ c.in_ok-rest.ensures.ok.0 c.in_ok-rest.ensures.ok.1))))

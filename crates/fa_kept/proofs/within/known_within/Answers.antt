@@ -1,5 +1,3 @@
-use Rattle.std.proofs.Common.{List}
-use Rattle.fa_kept.proofs.Growing.{same_number_is_right}
 use Rattle.fa_kept.proofs.Remembered.{answered_is_right}
 use Rattle.fa_kept.proofs.within.known_within.Goals as goal
 

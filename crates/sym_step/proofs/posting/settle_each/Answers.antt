@@ -7,7 +7,7 @@ use Rattle.fa_core.specs.Canonical.{IsCanonical}
 use Rattle.fa_core.specs.Faces.{IsGiving}
 use Rattle.fa_core.specs.declared.forest.Forest.{Forest}
 use Rattle.fa_sound.specs.Soundness.{SoundForest}
-use Rattle.c_cfg.proofs.Closing.{drop_all}
+use Rattle.std.proofs.lemmas.List.{drop_all}
 use Rattle.sym_core.specs.Explicit.{IsExplicit}
 use Rattle.sym_step.specs.inner.Stepping.{IsLike, IsSettlingBy, IsThat}
 use Rattle.sym_step.proofs.SettledForests.{settling_first, fits_still, settled_more}
