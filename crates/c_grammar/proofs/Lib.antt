@@ -1,5 +1,7 @@
 pub mod Branches
+pub mod Carrying
 pub mod Choices
+pub mod Closings
 pub mod Conditions
 pub mod Decide
 pub mod Depth

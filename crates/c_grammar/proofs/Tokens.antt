@@ -21,7 +21,7 @@ use Rattle.c_grammar.specs.declared.signs.Sign.TheVariants.{Star, Assign, Not, O
 use Rattle.c_grammar.proofs.Families.{one}
 use Rattle.c_grammar.proofs.Decide.{holds}
 use Rattle.c_grammar.proofs.Goods.{good_one}
-use Rattle.c_grammar.proofs.Parts.{fails_first, least_token, takes_token, takes_made}
+use Rattle.c_grammar.proofs.Parts.{fails_first, fails_made, least_token, takes_token, takes_made}
 use Rattle.c_grammar.specs.Hopeless.{place_at}
 use Rattle.c_grammar.proofs.SignLemmas.{clash, told_apart}
 
@@ -125,6 +125,23 @@ fails_one s real n end ts e is other = subst (λ e. Fails (one s) no_sign no_sig
 pub takes_at : (s : Sign) (n : ℕ) (ts rest : List Token) (t : Token) → ts ≡ t ∷ rest → sign_of t ≡ s
     → Takes (λ n. at s) no_sign no_sign n ts rest t.at
 takes_at s n ts rest t is sign = takes_made at_of (takes_token s n ts rest t is sign)
+
+-- the next token has this sign, or another one, as the one that takes it tells
+pub fails_token : (s : Sign) → s ≢ End → {n : ℕ} {end : Place} {ts : List Token} {e : SyntaxFault}
+    → (e ≡ Syntax (place_at end ts)) × (sign_at ts ≢ s) → Fails (one s) no_sign no_sign no_sign n end ts e
+fails_token s real {n = n} {end = end} {ts = ts} {e = e} h = fails_one s real n end ts e h.0 h.1
+
+pub fails_at : (s : Sign) → s ≢ End → {n : ℕ} {end : Place} {ts : List Token} {e : SyntaxFault}
+    → (e ≡ Syntax (place_at end ts)) × (sign_at ts ≢ s) → Fails (λ n. at s) no_sign no_sign no_sign n end ts e
+fails_at s real h = fails_made at_of _ (fails_token s real h)
+
+pub reads_token : (s : Sign) → {n : ℕ} {ts rest : List Token} {t : Token} → (ts ≡ t ∷ rest) × (sign_of t ≡ s)
+    → Takes (one s) no_sign no_sign n ts rest t
+reads_token s {n = n} {ts = ts} {rest = rest} {t = t} h = takes_token s n ts rest t h.0 h.1
+
+pub reads_at : (s : Sign) → {n : ℕ} {ts rest : List Token} {t : Token} → (ts ≡ t ∷ rest) × (sign_of t ≡ s)
+    → Takes (λ n. at s) no_sign no_sign n ts rest t.at
+reads_at s h = takes_made at_of (reads_token s h)
 
 -- no sign of a token is the end's
 abbrev Differs : Sign → Type 0
