@@ -24,21 +24,9 @@ use Rattle.c_grammar.specs.words.Shapes.{Shape}
 abbrev pub read_closed_path : Shape Path
 read_closed_path = record { rule = λ n. s.bracketed s.path; cont = no_sign; bars = no_sign; heads = no_sign }
 
-abbrev pub read_bare_size : Place → Shape Size
-read_bare_size at = record {
-  rule = λ n. Made (λ (q : Place × Path). size'.Bare at q.0 q.1) (s.at sign.Star then s.path);
-  cont = arrows;
-  bars = no_sign;
-  heads = no_sign;
-}
-
-abbrev pub read_starred_size : Place → Shape Size
-read_starred_size at = record {
-  rule = λ n. Made (λ (q : Place × Path). size'.Bracketed at q.0 q.1) (s.at sign.Star then s.path);
-  cont = arrows;
-  bars = no_sign;
-  heads = no_sign;
-}
+-- a star, and a path behind it
+abbrev pub read_starred : Shape (Place × Path)
+read_starred = record { rule = λ n. s.at sign.Star then s.path; cont = arrows; bars = no_sign; heads = no_sign }
 
 abbrev pub read_struct_size : Place → Shape Size
 read_struct_size at = record {

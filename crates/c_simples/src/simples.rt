@@ -1,11 +1,11 @@
 // Sizes, right sides and simple statements.
 ghost use Rattle.std.specs.Prelude.{length, IfOk, IfErr, ◌<◌, ◌≤◌};
 ghost use Rattle.c_reader.specs.Bounds.{Reads, Stops};
-ghost use Rattle.c_simples.specs.Shapes.{read_after_name, read_assigned, read_bare_size, read_called_simple};
-ghost use Rattle.c_simples.specs.Shapes.{read_cast, read_closed_path, read_closed_size, read_closed_size_inside};
-ghost use Rattle.c_simples.specs.Shapes.{read_free, read_malloc, read_maybe_cast, read_operand_rhs, read_rhs};
-ghost use Rattle.c_simples.specs.Shapes.{read_simple, read_size, read_size_inside, read_sized, read_starred_size};
-ghost use Rattle.c_simples.specs.Shapes.{read_struct_size, read_word_simple};
+ghost use Rattle.c_simples.specs.Shapes.{read_after_name, read_assigned, read_called_simple, read_cast};
+ghost use Rattle.c_simples.specs.Shapes.{read_closed_path, read_closed_size, read_closed_size_inside, read_free};
+ghost use Rattle.c_simples.specs.Shapes.{read_malloc, read_maybe_cast, read_operand_rhs, read_rhs, read_simple};
+ghost use Rattle.c_simples.specs.Shapes.{read_size, read_size_inside, read_sized, read_starred, read_struct_size};
+ghost use Rattle.c_simples.specs.Shapes.{read_word_simple};
 
 use c_ast::{Call, Cast, Name, Path, Rhs, Simple, Size};
 use c_grammar::{Sign, SyntaxFault};
@@ -31,46 +31,19 @@ fn closed_path<'t>(
     Ok((path, rest))
 }
 
-/// `"*" path`, after a `sizeof`.
-fn bare_size<'t>(
+/// A star, and a path behind it: the place of the star, and the path.
+fn starred<'t>(
     alloc: Global,
     bounds: &Bounds,
-    at: Place,
     left: &'t [Token],
-) -> Result<(Size, &'t [Token]), SyntaxFault>
-    ensures ok { IfOk result (λ r. Reads (read_bare_size at) bounds.now left.now r.1.now r.0) }
+) -> Result<((Place, Path), &'t [Token]), SyntaxFault>
+    ensures ok { IfOk result (λ r. Reads read_starred bounds.now left.now r.1.now r.0) }
     ensures shorter { IfOk result (λ r. length r.1.now < length left.now) }
-    ensures err { IfErr result (Stops (read_bare_size at) bounds.now left.now) }
+    ensures err { IfErr result (Stops read_starred bounds.now left.now) }
 {
     let (star, rest) = take(bounds, left, Sign::Star)?;
     let (path, rest) = path(alloc, bounds, rest)?;
-    let size = Size::Bare {
-        at,
-        star: star.at,
-        path,
-    };
-    Ok((size, rest))
-}
-
-/// `"*" path`, in the brackets of a `sizeof`.
-fn starred_size<'t>(
-    alloc: Global,
-    bounds: &Bounds,
-    at: Place,
-    left: &'t [Token],
-) -> Result<(Size, &'t [Token]), SyntaxFault>
-    ensures ok { IfOk result (λ r. Reads (read_starred_size at) bounds.now left.now r.1.now r.0) }
-    ensures shorter { IfOk result (λ r. length r.1.now < length left.now) }
-    ensures err { IfErr result (Stops (read_starred_size at) bounds.now left.now) }
-{
-    let (star, rest) = take(bounds, left, Sign::Star)?;
-    let (path, rest) = path(alloc, bounds, rest)?;
-    let size = Size::Bracketed {
-        at,
-        star: star.at,
-        path,
-    };
-    Ok((size, rest))
+    Ok(((star.at, path), rest))
 }
 
 /// `"struct" id`, in the brackets of a `sizeof`.
@@ -104,7 +77,10 @@ fn size_inside<'t>(
     if is_next(left, Sign::Struct) {
         return struct_size(alloc, bounds, at, left);
     }
-    starred_size(alloc, bounds, at, left)
+    let (inside, rest) = starred(alloc, bounds, left)?;
+    let (star, path) = inside;
+    let size = Size::Bracketed { at, star, path };
+    Ok((size, rest))
 }
 
 /// What stands in the brackets of a `sizeof`, with the brackets.
@@ -138,7 +114,10 @@ fn sized<'t>(
     if is_next(left, Sign::Open) {
         return closed_size_inside(alloc, bounds, at, left);
     }
-    bare_size(alloc, bounds, at, left)
+    let (bare, rest) = starred(alloc, bounds, left)?;
+    let (star, path) = bare;
+    let size = Size::Bare { at, star, path };
+    Ok((size, rest))
 }
 
 /// `size = "sizeof" "(" "struct" id ")" | "sizeof" "(" "*" path ")" | "sizeof" "*" path`

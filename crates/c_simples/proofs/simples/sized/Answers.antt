@@ -1,66 +1,58 @@
-use Rattle.std.proofs.Common.{refl, sym, inl, ◌∙◌, ◌∷◌, []}
-use Rattle.std.proofs.lemmas.Result.{IfOk-weaker, IfErr-weaker}
+use Rattle.std.proofs.Common.{◌≡◌, ℕ, List, true, false, refl, sym, inl, ◌∙◌}
 use Rattle.fore_base.specs.declared.place.Place.{Place}
 use Rattle.c_ast.specs.declared.operands.Path.{Path}
 use Rattle.c_ast.specs.declared.simples.Size.TheVariants as size'
-use Rattle.c_grammar.specs.declared.signs.Sign.TheVariants as sign
-use Rattle.c_grammar.specs.words.Parted.{Inside, Sized, size_of}
-use Rattle.c_grammar.specs.words.Sets.{among, no_sign, arrows}
-use Rattle.c_reader.specs.Bounds.{Reads, Stops}
-use Rattle.c_simples.specs.Shapes.{read_bare_size, read_closed_size_inside, read_sized}
-use Rattle.c_grammar.proofs.Choices.{left_takes, right_takes, left_fails, right_fails, same_fork}
-use Rattle.c_grammar.proofs.Goods.{named, contd}
-use Rattle.c_grammar.proofs.Parts.{takes_same, fails_same, good_made}
+use Rattle.c_lexer.specs.declared.token.Token.{Token}
+use Rattle.c_grammar.specs.Signs.{sign_at}
+use Rattle.c_grammar.specs.words.Parted.{Inside, Sized, size_of, stars}
+use Rattle.c_grammar.specs.words.Sets.{no_sign, opens, arrows}
+use Rattle.c_reader.specs.Bounds.{Stops}
+use Rattle.c_simples.specs.Shapes.{read_closed_size_inside, read_sized, read_starred}
+use Rattle.c_grammar.proofs.Carrying.{Carries, over, widened, same_carries, left_carries, right_carries, carry}
+use Rattle.c_grammar.proofs.Carrying.{carry_fails, carried_ok, carried_err}
+use Rattle.c_grammar.proofs.Choices.{same_fork}
+use Rattle.c_grammar.proofs.Families.{made}
+use Rattle.c_grammar.proofs.Parts.{takes_made, fails_made, good_made}
+use Rattle.c_grammar.proofs.Rules.{Good}
 use Rattle.c_grammar.proofs.Statements.{good_closed_inside, good_star_path}
-use Rattle.c_grammar.proofs.Steps.{widen_takes, widen_fails}
+use Rattle.c_grammar.proofs.Steps.{passed}
 use Rattle.c_simples.proofs.simples.sized.Goals as goal
+
+module _ (at : Place) where
+  good_closed : Good (read_closed_size_inside at).rule opens no_sign no_sign false
+  good_closed = good_made good_closed_inside (λ (i : Inside). size_of (at, inl i))
+
+  good_starred : Good (made (λ (q : Place × Path). size'.Bare at q.0 q.1) read_starred.rule) stars arrows no_sign false
+  good_starred = good_made good_star_path (λ (q : Place × Path). size'.Bare at q.0 q.1)
+
+  at_open : {n : ℕ} {ts : List Token} → opens (sign_at ts) ≡ true
+      → Carries (read_closed_size_inside at).rule no_sign no_sign (read_sized at).rule arrows no_sign n ts
+  at_open here = over (left_carries good_closed good_starred refl refl here)
+      (over (widened refl refl) (same_carries (same_fork (λ (v : Sized). size_of (at, v)))))
+
+  at_star : {n : ℕ} {ts : List Token} → opens (sign_at ts) ≡ false
+      → Carries (made (λ (q : Place × Path). size'.Bare at q.0 q.1) read_starred.rule) arrows no_sign
+      (read_sized at).rule arrows no_sign n ts
+  at_star other = over (right_carries good_closed good_starred refl refl refl other)
+      (over (widened refl refl) (same_carries (same_fork (λ (v : Sized). size_of (at, v)))))
 
 pub returns-then-is_next-clause-ok : goal.returns-then-is_next-clause-ok
 returns-then-is_next-clause-ok c =
-    IfOk-weaker c.closed_size_inside.result
-    (λ r. Reads (read_closed_size_inside c.args.at) c.args.bounds.now c.args.left.now r.1.now r.0)
-    (λ r. Reads (read_sized c.args.at) c.args.bounds.now c.args.left.now r.1.now r.0)
-    (λ r t. takes_same (same_fork (λ (v : Sized). size_of (c.args.at, v)))
-    (widen_takes _ _ refl refl
-    (left_takes
-    (named (among (sign.Open ∷ [])) no_sign no_sign
-    (good_made good_closed_inside (λ (i : Inside). size_of (c.args.at, inl i))) refl refl refl)
-    (contd arrows no_sign (good_made good_star_path (λ (q : Place × Path). size'.Bare c.args.at q.0 q.1)) refl refl)
-    refl refl (sym c.is_next.ensures ∙ c.if-is_next.true) t))) c.closed_size_inside.ensures.ok
+    carried_ok (at_open c.args.at (sym c.is_next.ensures ∙ c.if-is_next.true)) c.closed_size_inside.result
+    (λ r. r.1.now) (λ r. r.0) c.closed_size_inside.ensures.ok
 
 pub returns-then-is_next-clause-err : goal.returns-then-is_next-clause-err
 returns-then-is_next-clause-err c =
-    IfErr-weaker c.closed_size_inside.result
-    (Stops (read_closed_size_inside c.args.at) c.args.bounds.now c.args.left.now)
-    (Stops (read_sized c.args.at) c.args.bounds.now c.args.left.now)
-    (λ e x. fails_same (same_fork (λ (v : Sized). size_of (c.args.at, v))) _
-    (widen_fails _ _ _ refl refl refl
-    (left_fails
-    (named (among (sign.Open ∷ [])) no_sign no_sign
-    (good_made good_closed_inside (λ (i : Inside). size_of (c.args.at, inl i))) refl refl refl)
-    (contd arrows no_sign (good_made good_star_path (λ (q : Place × Path). size'.Bare c.args.at q.0 q.1)) refl refl)
-    refl refl (sym c.is_next.ensures ∙ c.if-is_next.true) x))) c.closed_size_inside.ensures.err
+    carried_err (at_open c.args.at (sym c.is_next.ensures ∙ c.if-is_next.true)) _ c.closed_size_inside.result
+    c.closed_size_inside.ensures.err
+
+pub returns-in_err-bare-clause-err : goal.returns-in_err-bare-clause-err
+returns-in_err-bare-clause-err c =
+    passed c.from_residual.result (Stops (read_sized c.args.at) c.args.bounds.now c.args.left.now)
+    c.in_err-bare.field-0.0 c.from_residual.ensures.1
+    (carry_fails (at_star c.args.at (sym c.is_next.ensures ∙ c.if-is_next.false))
+    (fails_made (λ (q : Place × Path). size'.Bare c.args.at q.0 q.1) _ c.in_err-bare.ensures.err))
 
 pub returns-clause-ok : goal.returns-clause-ok
-returns-clause-ok c = IfOk-weaker c.bare_size.result
-    (λ r. Reads (read_bare_size c.args.at) c.args.bounds.now c.args.left.now r.1.now r.0)
-    (λ r. Reads (read_sized c.args.at) c.args.bounds.now c.args.left.now r.1.now r.0)
-    (λ r t. takes_same (same_fork (λ (v : Sized). size_of (c.args.at, v)))
-    (widen_takes _ _ refl refl
-    (right_takes
-    (named (among (sign.Open ∷ [])) no_sign no_sign
-    (good_made good_closed_inside (λ (i : Inside). size_of (c.args.at, inl i))) refl refl refl)
-    (contd arrows no_sign (good_made good_star_path (λ (q : Place × Path). size'.Bare c.args.at q.0 q.1)) refl refl)
-    refl refl refl (sym c.is_next.ensures ∙ c.if-is_next.false) t))) c.bare_size.ensures.ok
-
-pub returns-clause-err : goal.returns-clause-err
-returns-clause-err c = IfErr-weaker c.bare_size.result
-    (Stops (read_bare_size c.args.at) c.args.bounds.now c.args.left.now)
-    (Stops (read_sized c.args.at) c.args.bounds.now c.args.left.now)
-    (λ e x. fails_same (same_fork (λ (v : Sized). size_of (c.args.at, v))) _
-    (widen_fails _ _ _ refl refl refl
-    (right_fails
-    (named (among (sign.Open ∷ [])) no_sign no_sign
-    (good_made good_closed_inside (λ (i : Inside). size_of (c.args.at, inl i))) refl refl refl)
-    (contd arrows no_sign (good_made good_star_path (λ (q : Place × Path). size'.Bare c.args.at q.0 q.1)) refl refl)
-    refl refl refl (sym c.is_next.ensures ∙ c.if-is_next.false) x))) c.bare_size.ensures.err
+returns-clause-ok c = carry (at_star c.args.at (sym c.is_next.ensures ∙ c.if-is_next.false))
+    (takes_made (λ (q : Place × Path). size'.Bare c.args.at q.0 q.1) c.in_ok-bare.ensures.ok)
