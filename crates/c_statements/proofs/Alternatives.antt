@@ -8,6 +8,7 @@ use Rattle.c_grammar.specs.Signs.{sign_at}
 use Rattle.c_grammar.specs.declared.fault.SyntaxFault.{SyntaxFault}
 use Rattle.c_grammar.specs.words.Faults.{Fails, Takes}
 use Rattle.c_grammar.specs.words.Sets.{Signs, no_sign}
+use Rattle.c_grammar.proofs.Carrying.{Carries}
 use Rattle.c_grammar.proofs.Choices.{left_takes, right_takes, left_fails, right_fails}
 use Rattle.c_grammar.proofs.Families.{choice}
 use Rattle.c_grammar.proofs.Goods.{contd}
@@ -35,3 +36,11 @@ module _ {X : Type 0} {A B : Rule X} {fa fb bars : Signs} (ga : Good A fa no_sig
   pub second_fails : {n : ℕ} {end : Place} {ts : List Token} {e : SyntaxFault} → fa (sign_at ts) ≡ false
       → Fails B no_sign bars no_sign n end ts e → Fails (choice A B) no_sign bars no_sign n end ts e
   second_fails other f = widen_fails no_sign bars no_sign refl both refl (right_fails ga gb apart refl refl other f)
+
+  pub first_carries : {n : ℕ} {ts : List Token} → fa (sign_at ts) ≡ true
+      → Carries A no_sign bars (choice A B) no_sign bars n ts
+  first_carries first = record { takes = λ rest x t. first_takes first t; fails = λ end e f. first_fails first f }
+
+  pub second_carries : {n : ℕ} {ts : List Token} → fa (sign_at ts) ≡ false
+      → Carries B no_sign bars (choice A B) no_sign bars n ts
+  second_carries other = record { takes = λ rest x t. second_takes other t; fails = λ end e f. second_fails other f }

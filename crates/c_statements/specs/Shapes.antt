@@ -145,17 +145,10 @@ read_return_stmt = record {
   heads = no_sign;
 }
 
-abbrev pub read_break_stmt : Shape Stmt
-read_break_stmt = record {
-  rule = λ n. Made s.break_of (s.at sign.Break then token sign.Semicolon);
-  cont = no_sign;
-  bars = no_sign;
-  heads = no_sign;
-}
-
-abbrev pub read_continue_stmt : Shape Stmt
-read_continue_stmt = record {
-  rule = λ n. Made s.continue_of (s.at sign.Continue then token sign.Semicolon);
+-- a word, and a semicolon behind it
+abbrev pub read_ended : Sign → Shape Place
+read_ended word = record {
+  rule = λ n. Made s.first (s.at word then token sign.Semicolon);
   cont = no_sign;
   bars = no_sign;
   heads = no_sign;

@@ -1,8 +1,9 @@
 // Statements that are no level.
-ghost use Rattle.std.specs.Prelude.{length, IfOk, IfErr, ◌<◌, ◌≤◌};
+ghost use Rattle.std.specs.Prelude.{length, IfOk, IfErr, ◌<◌, ◌≤◌, ◌≢◌};
+ghost use Rattle.c_grammar.specs.declared.signs.Sign.TheVariants.{End};
 ghost use Rattle.c_reader.specs.Bounds.{Reads, Stops};
-ghost use Rattle.c_statements.specs.Shapes.{read_assert_stmt, read_break_stmt, read_continue_stmt, read_empty};
-ghost use Rattle.c_statements.specs.Shapes.{read_flat, read_maybe_operand, read_return_stmt, read_simple_stmt};
+ghost use Rattle.c_statements.specs.Shapes.{read_assert_stmt, read_empty, read_ended, read_flat, read_maybe_operand};
+ghost use Rattle.c_statements.specs.Shapes.{read_return_stmt, read_simple_stmt};
 
 use crate::loops::tested;
 use c_ast::{Operand, Stmt};
@@ -12,6 +13,7 @@ use c_operands::operand;
 use c_reader::{Bounds, begins_operand, begins_simple, is_next, peek, take};
 use c_simples::simple;
 use fore_base::boxed::Boxed;
+use fore_base::place::Place;
 use std::alloc::Global;
 
 /// `";"`
@@ -83,36 +85,20 @@ fn return_stmt<'t>(
     Ok((stmt, rest))
 }
 
-/// `"break" ";"`
-fn break_stmt<'t>(
-    alloc: Global,
+/// A word, and a semicolon behind it: the place of the word.
+fn ended<'t>(
     bounds: &Bounds,
+    word: Sign,
     left: &'t [Token],
-) -> Result<(Stmt, &'t [Token]), SyntaxFault>
-    ensures ok { IfOk result (λ r. Reads read_break_stmt bounds.now left.now r.1.now r.0) }
+) -> Result<(Place, &'t [Token]), SyntaxFault>
+    requires { word ≢ End }
+    ensures ok { IfOk result (λ r. Reads (read_ended word) bounds.now left.now r.1.now r.0) }
     ensures shorter { IfOk result (λ r. length r.1.now < length left.now) }
-    ensures err { IfErr result (Stops read_break_stmt bounds.now left.now) }
+    ensures err { IfErr result (Stops (read_ended word) bounds.now left.now) }
 {
-    let (token, rest) = take(bounds, left, Sign::Break)?;
+    let (token, rest) = take(bounds, left, word)?;
     let (_, rest) = take(bounds, rest, Sign::Semicolon)?;
-    let stmt = Stmt::Break { at: token.at };
-    Ok((stmt, rest))
-}
-
-/// `"continue" ";"`
-fn continue_stmt<'t>(
-    alloc: Global,
-    bounds: &Bounds,
-    left: &'t [Token],
-) -> Result<(Stmt, &'t [Token]), SyntaxFault>
-    ensures ok { IfOk result (λ r. Reads read_continue_stmt bounds.now left.now r.1.now r.0) }
-    ensures shorter { IfOk result (λ r. length r.1.now < length left.now) }
-    ensures err { IfErr result (Stops read_continue_stmt bounds.now left.now) }
-{
-    let (token, rest) = take(bounds, left, Sign::Continue)?;
-    let (_, rest) = take(bounds, rest, Sign::Semicolon)?;
-    let stmt = Stmt::Continue { at: token.at };
-    Ok((stmt, rest))
+    Ok((token.at, rest))
 }
 
 /// `"assert" "(" cond ")" ";"`
@@ -152,10 +138,12 @@ pub fn flat<'t>(
         return return_stmt(alloc, bounds, left);
     }
     if is_next(left, Sign::Break) {
-        return break_stmt(alloc, bounds, left);
+        let (at, rest) = ended(bounds, Sign::Break, left)?;
+        return Ok((Stmt::Break { at }, rest));
     }
     if is_next(left, Sign::Continue) {
-        return continue_stmt(alloc, bounds, left);
+        let (at, rest) = ended(bounds, Sign::Continue, left)?;
+        return Ok((Stmt::Continue { at }, rest));
     }
     assert_stmt(alloc, bounds, left)
 }

@@ -33,10 +33,8 @@ use Rattle.c_grammar.proofs.Statements.{good_nested, good_other, good_part, good
 use Rattle.c_grammar.proofs.Statements.{same_stmt}
 use Rattle.c_grammar.proofs.Steps.{passed, pair, in_front, in_back, widen_takes, widen_fails, good_pair}
 use Rattle.c_grammar.proofs.Tokens.{fails_one, takes_at, real}
-use Rattle.c_statements.proofs.Alternatives.{first_takes, first_fails, second_takes, second_fails}
-use Rattle.c_statements.proofs.NestedForms.{good_block_stmt, good_if_stmt, good_while_stmt, good_do_stmt}
-use Rattle.c_statements.proofs.NestedForms.{good_for_stmt, good_after_block, good_after_if, good_after_while}
-use Rattle.c_statements.proofs.NestedForms.{block_apart, if_apart, while_apart, do_apart}
+use Rattle.c_grammar.proofs.Carrying.{carried_ok, carried_err}
+use Rattle.c_statements.proofs.NestedForms.{at_block, at_if, at_while, at_do, at_for}
 use Rattle.c_statements.proofs.statements.«+stmt».Goals as goal
 
 pub part-returns-in_err-declare-clause-err : goal.part-returns-in_err-declare-clause-err
@@ -370,93 +368,57 @@ block_stmt-returns-clause-ok n c = widen_takes _ _ refl refl (takes_made stmt'.B
 
 pub nested-returns-then-is_next-clause-ok : goal.nested-returns-then-is_next-clause-ok
 nested-returns-then-is_next-clause-ok n c =
-    IfOk-weaker c.block_stmt.result (λ r. Reads read_block_stmt c.args.bounds.now c.args.left.now r.1.now r.0)
-    (λ r. Reads read_nested c.args.bounds.now c.args.left.now r.1.now r.0)
-    (λ r t. first_takes good_block_stmt good_after_block block_apart refl (sym c.is_next.ensures ∙ c.if-is_next.true) t)
+    carried_ok (at_block (sym c.is_next.ensures ∙ c.if-is_next.true)) c.block_stmt.result (λ r. r.1.now) (λ r. r.0)
     c.block_stmt.ensures.ok
 
 pub nested-returns-then-is_next-clause-err : goal.nested-returns-then-is_next-clause-err
 nested-returns-then-is_next-clause-err n c =
-    IfErr-weaker c.block_stmt.result (Stops read_block_stmt c.args.bounds.now c.args.left.now)
-    (Stops read_nested c.args.bounds.now c.args.left.now)
-    (λ e f. first_fails good_block_stmt good_after_block block_apart refl (sym c.is_next.ensures ∙ c.if-is_next.true) f)
-    c.block_stmt.ensures.err
+    carried_err (at_block (sym c.is_next.ensures ∙ c.if-is_next.true)) _ c.block_stmt.result c.block_stmt.ensures.err
 
 pub nested-returns-then-is_next-2-clause-ok : goal.nested-returns-then-is_next-2-clause-ok
 nested-returns-then-is_next-2-clause-ok n c =
-    IfOk-weaker c.if_stmt.result (λ r. Reads read_if_stmt c.args.bounds.now c.args.left.now r.1.now r.0)
-    (λ r. Reads read_nested c.args.bounds.now c.args.left.now r.1.now r.0)
-    (λ r t. second_takes good_block_stmt good_after_block block_apart refl (sym c.is_next.ensures ∙ c.if-is_next.false)
-    (first_takes good_if_stmt good_after_if if_apart refl (sym c.is_next-2.ensures ∙ c.if-is_next-2.true) t))
-    c.if_stmt.ensures.ok
+    carried_ok (at_if (sym c.is_next.ensures ∙ c.if-is_next.false) (sym c.is_next-2.ensures ∙ c.if-is_next-2.true))
+    c.if_stmt.result (λ r. r.1.now) (λ r. r.0) c.if_stmt.ensures.ok
 
 pub nested-returns-then-is_next-2-clause-err : goal.nested-returns-then-is_next-2-clause-err
 nested-returns-then-is_next-2-clause-err n c =
-    IfErr-weaker c.if_stmt.result (Stops read_if_stmt c.args.bounds.now c.args.left.now)
-    (Stops read_nested c.args.bounds.now c.args.left.now)
-    (λ e f. second_fails good_block_stmt good_after_block block_apart refl (sym c.is_next.ensures ∙ c.if-is_next.false)
-    (first_fails good_if_stmt good_after_if if_apart refl (sym c.is_next-2.ensures ∙ c.if-is_next-2.true) f))
-    c.if_stmt.ensures.err
+    carried_err (at_if (sym c.is_next.ensures ∙ c.if-is_next.false) (sym c.is_next-2.ensures ∙ c.if-is_next-2.true))
+    _ c.if_stmt.result c.if_stmt.ensures.err
 
 pub nested-returns-then-is_next-3-clause-ok : goal.nested-returns-then-is_next-3-clause-ok
 nested-returns-then-is_next-3-clause-ok n c =
-    IfOk-weaker c.while_stmt.result (λ r. Reads read_while_stmt c.args.bounds.now c.args.left.now r.1.now r.0)
-    (λ r. Reads read_nested c.args.bounds.now c.args.left.now r.1.now r.0)
-    (λ r t. second_takes good_block_stmt good_after_block block_apart refl (sym c.is_next.ensures ∙ c.if-is_next.false)
-    (second_takes good_if_stmt good_after_if if_apart refl (sym c.is_next-2.ensures ∙ c.if-is_next-2.false)
-    (first_takes good_while_stmt good_after_while while_apart refl (sym c.is_next-3.ensures ∙ c.if-is_next-3.true) t)))
+    carried_ok (at_while (sym c.is_next.ensures ∙ c.if-is_next.false) (sym c.is_next-2.ensures ∙ c.if-is_next-2.false)
+    (sym c.is_next-3.ensures ∙ c.if-is_next-3.true)) c.while_stmt.result (λ r. r.1.now) (λ r. r.0)
     c.while_stmt.ensures.ok
 
 pub nested-returns-then-is_next-3-clause-err : goal.nested-returns-then-is_next-3-clause-err
 nested-returns-then-is_next-3-clause-err n c =
-    IfErr-weaker c.while_stmt.result (Stops read_while_stmt c.args.bounds.now c.args.left.now)
-    (Stops read_nested c.args.bounds.now c.args.left.now)
-    (λ e f. second_fails good_block_stmt good_after_block block_apart refl (sym c.is_next.ensures ∙ c.if-is_next.false)
-    (second_fails good_if_stmt good_after_if if_apart refl (sym c.is_next-2.ensures ∙ c.if-is_next-2.false)
-    (first_fails good_while_stmt good_after_while while_apart refl (sym c.is_next-3.ensures ∙ c.if-is_next-3.true) f)))
-    c.while_stmt.ensures.err
+    carried_err (at_while (sym c.is_next.ensures ∙ c.if-is_next.false) (sym c.is_next-2.ensures ∙ c.if-is_next-2.false)
+    (sym c.is_next-3.ensures ∙ c.if-is_next-3.true)) _ c.while_stmt.result c.while_stmt.ensures.err
 
 pub nested-returns-then-is_next-4-clause-ok : goal.nested-returns-then-is_next-4-clause-ok
 nested-returns-then-is_next-4-clause-ok n c =
-    IfOk-weaker c.do_stmt.result (λ r. Reads read_do_stmt c.args.bounds.now c.args.left.now r.1.now r.0)
-    (λ r. Reads read_nested c.args.bounds.now c.args.left.now r.1.now r.0)
-    (λ r t. second_takes good_block_stmt good_after_block block_apart refl (sym c.is_next.ensures ∙ c.if-is_next.false)
-    (second_takes good_if_stmt good_after_if if_apart refl (sym c.is_next-2.ensures ∙ c.if-is_next-2.false)
-    (second_takes good_while_stmt good_after_while while_apart refl (sym c.is_next-3.ensures ∙ c.if-is_next-3.false)
-    (first_takes good_do_stmt good_for_stmt do_apart refl (sym c.is_next-4.ensures ∙ c.if-is_next-4.true) t))))
-    c.do_stmt.ensures.ok
+    carried_ok (at_do (sym c.is_next.ensures ∙ c.if-is_next.false) (sym c.is_next-2.ensures ∙ c.if-is_next-2.false)
+    (sym c.is_next-3.ensures ∙ c.if-is_next-3.false) (sym c.is_next-4.ensures ∙ c.if-is_next-4.true)) c.do_stmt.result
+    (λ r. r.1.now) (λ r. r.0) c.do_stmt.ensures.ok
 
 pub nested-returns-then-is_next-4-clause-err : goal.nested-returns-then-is_next-4-clause-err
 nested-returns-then-is_next-4-clause-err n c =
-    IfErr-weaker c.do_stmt.result (Stops read_do_stmt c.args.bounds.now c.args.left.now)
-    (Stops read_nested c.args.bounds.now c.args.left.now)
-    (λ e f. second_fails good_block_stmt good_after_block block_apart refl (sym c.is_next.ensures ∙ c.if-is_next.false)
-    (second_fails good_if_stmt good_after_if if_apart refl (sym c.is_next-2.ensures ∙ c.if-is_next-2.false)
-    (second_fails good_while_stmt good_after_while while_apart refl (sym c.is_next-3.ensures ∙ c.if-is_next-3.false)
-    (first_fails good_do_stmt good_for_stmt do_apart refl (sym c.is_next-4.ensures ∙ c.if-is_next-4.true) f))))
+    carried_err (at_do (sym c.is_next.ensures ∙ c.if-is_next.false) (sym c.is_next-2.ensures ∙ c.if-is_next-2.false)
+    (sym c.is_next-3.ensures ∙ c.if-is_next-3.false) (sym c.is_next-4.ensures ∙ c.if-is_next-4.true)) _ c.do_stmt.result
     c.do_stmt.ensures.err
 
 pub nested-returns-clause-ok : goal.nested-returns-clause-ok
 nested-returns-clause-ok n c =
-    IfOk-weaker c.for_stmt.result (λ r. Reads read_for_stmt c.args.bounds.now c.args.left.now r.1.now r.0)
-    (λ r. Reads read_nested c.args.bounds.now c.args.left.now r.1.now r.0)
-    (λ r t. second_takes good_block_stmt good_after_block block_apart refl (sym c.is_next.ensures ∙ c.if-is_next.false)
-    (second_takes good_if_stmt good_after_if if_apart refl (sym c.is_next-2.ensures ∙ c.if-is_next-2.false)
-    (second_takes good_while_stmt good_after_while while_apart refl (sym c.is_next-3.ensures ∙ c.if-is_next-3.false)
-    (second_takes good_do_stmt good_for_stmt do_apart refl (sym c.is_next-4.ensures ∙ c.if-is_next-4.false)
-    t))))
-    c.for_stmt.ensures.ok
+    carried_ok (at_for (sym c.is_next.ensures ∙ c.if-is_next.false) (sym c.is_next-2.ensures ∙ c.if-is_next-2.false)
+    (sym c.is_next-3.ensures ∙ c.if-is_next-3.false) (sym c.is_next-4.ensures ∙ c.if-is_next-4.false)) c.for_stmt.result
+    (λ r. r.1.now) (λ r. r.0) c.for_stmt.ensures.ok
 
 pub nested-returns-clause-err : goal.nested-returns-clause-err
 nested-returns-clause-err n c =
-    IfErr-weaker c.for_stmt.result (Stops read_for_stmt c.args.bounds.now c.args.left.now)
-    (Stops read_nested c.args.bounds.now c.args.left.now)
-    (λ e f. second_fails good_block_stmt good_after_block block_apart refl (sym c.is_next.ensures ∙ c.if-is_next.false)
-    (second_fails good_if_stmt good_after_if if_apart refl (sym c.is_next-2.ensures ∙ c.if-is_next-2.false)
-    (second_fails good_while_stmt good_after_while while_apart refl (sym c.is_next-3.ensures ∙ c.if-is_next-3.false)
-    (second_fails good_do_stmt good_for_stmt do_apart refl (sym c.is_next-4.ensures ∙ c.if-is_next-4.false)
-    f))))
-    c.for_stmt.ensures.err
+    carried_err (at_for (sym c.is_next.ensures ∙ c.if-is_next.false) (sym c.is_next-2.ensures ∙ c.if-is_next-2.false)
+    (sym c.is_next-3.ensures ∙ c.if-is_next-3.false) (sym c.is_next-4.ensures ∙ c.if-is_next-4.false)) _
+    c.for_stmt.result c.for_stmt.ensures.err
 
 pub stmt-returns-then-not-begins_level-clause-ok : goal.stmt-returns-then-not-begins_level-clause-ok
 stmt-returns-then-not-begins_level-clause-ok n c =
