@@ -1,10 +1,9 @@
 // Parameters, and what a function gives.
 ghost use Rattle.std.specs.Prelude.{length, IfOk, IfErr, ◌<◌, ◌≤◌};
 ghost use Rattle.c_reader.specs.Bounds.{Reads, Stops};
-ghost use Rattle.c_parser.specs.inner.Shapes.{read_all_params, read_closed_params, read_data_type, read_datum_param};
-ghost use Rattle.c_parser.specs.inner.Shapes.{read_head, read_list_params, read_maybe_params, read_next_param};
-ghost use Rattle.c_parser.specs.inner.Shapes.{read_param, read_params, read_pointer_param, read_pointer_type};
-ghost use Rattle.c_parser.specs.inner.Shapes.{read_rtype, read_void_params, read_void_type};
+ghost use Rattle.c_parser.specs.inner.Shapes.{read_all_params, read_closed_params, read_datum_param, read_head};
+ghost use Rattle.c_parser.specs.inner.Shapes.{read_maybe_params, read_next_param, read_param, read_params};
+ghost use Rattle.c_parser.specs.inner.Shapes.{read_pointer_param, read_rtype};
 
 use c_ast::{Head, Param, Params, ReturnType};
 use c_grammar::{Sign, SyntaxFault};
@@ -105,36 +104,6 @@ fn all_params<'t>(
     Ok((all, rest))
 }
 
-/// `"void"` as parameters.
-fn void_params<'t>(
-    alloc: Global,
-    bounds: &Bounds,
-    left: &'t [Token],
-) -> Result<(Params, &'t [Token]), SyntaxFault>
-    ensures ok { IfOk result (λ r. Reads read_void_params bounds.now left.now r.1.now r.0) }
-    ensures shorter { IfOk result (λ r. length r.1.now < length left.now) }
-    ensures err { IfErr result (Stops read_void_params bounds.now left.now) }
-{
-    let (token, rest) = take(bounds, left, Sign::Void)?;
-    let params = Params::Void { at: token.at };
-    Ok((params, rest))
-}
-
-/// Parameters one by one.
-fn list_params<'t>(
-    alloc: Global,
-    bounds: &Bounds,
-    left: &'t [Token],
-) -> Result<(Params, &'t [Token]), SyntaxFault>
-    ensures ok { IfOk result (λ r. Reads read_list_params bounds.now left.now r.1.now r.0) }
-    ensures shorter { IfOk result (λ r. length r.1.now < length left.now) }
-    ensures err { IfErr result (Stops read_list_params bounds.now left.now) }
-{
-    let (all, rest) = all_params(alloc, bounds, left)?;
-    let params = Params::List(all);
-    Ok((params, rest))
-}
-
 /// `params = "void" | param { "," param }`
 fn params<'t>(
     alloc: Global,
@@ -146,9 +115,11 @@ fn params<'t>(
     ensures err { IfErr result (Stops read_params bounds.now left.now) }
 {
     if is_next(left, Sign::Void) {
-        return void_params(alloc, bounds, left);
+        let (token, rest) = take(bounds, left, Sign::Void)?;
+        return Ok((Params::Void { at: token.at }, rest));
     }
-    list_params(alloc, bounds, left)
+    let (all, rest) = all_params(alloc, bounds, left)?;
+    Ok((Params::List(all), rest))
 }
 
 /// `[ params ]`
@@ -184,53 +155,6 @@ pub fn closed_params<'t>(
     Ok((params, rest))
 }
 
-/// `"void"` as what a function gives.
-fn void_type<'t>(
-    alloc: Global,
-    bounds: &Bounds,
-    left: &'t [Token],
-) -> Result<(ReturnType, &'t [Token]), SyntaxFault>
-    ensures ok { IfOk result (λ r. Reads read_void_type bounds.now left.now r.1.now r.0) }
-    ensures shorter { IfOk result (λ r. length r.1.now < length left.now) }
-    ensures err { IfErr result (Stops read_void_type bounds.now left.now) }
-{
-    let (token, rest) = take(bounds, left, Sign::Void)?;
-    let gives = ReturnType::Void { at: token.at };
-    Ok((gives, rest))
-}
-
-/// Data as what a function gives.
-fn data_type<'t>(
-    alloc: Global,
-    bounds: &Bounds,
-    left: &'t [Token],
-) -> Result<(ReturnType, &'t [Token]), SyntaxFault>
-    ensures ok { IfOk result (λ r. Reads read_data_type bounds.now left.now r.1.now r.0) }
-    ensures shorter { IfOk result (λ r. length r.1.now < length left.now) }
-    ensures err { IfErr result (Stops read_data_type bounds.now left.now) }
-{
-    let (data, rest) = data(alloc, bounds, left)?;
-    let gives = ReturnType::Data(data);
-    Ok((gives, rest))
-}
-
-/// `"struct" id "*"`
-fn pointer_type<'t>(
-    alloc: Global,
-    bounds: &Bounds,
-    left: &'t [Token],
-) -> Result<(ReturnType, &'t [Token]), SyntaxFault>
-    ensures ok { IfOk result (λ r. Reads read_pointer_type bounds.now left.now r.1.now r.0) }
-    ensures shorter { IfOk result (λ r. length r.1.now < length left.now) }
-    ensures err { IfErr result (Stops read_pointer_type bounds.now left.now) }
-{
-    let (head, rest) = named(alloc, bounds, Sign::Struct, left)?;
-    let (_, rest) = take(bounds, rest, Sign::Star)?;
-    let (at, name) = head;
-    let gives = ReturnType::Pointer { at, name };
-    Ok((gives, rest))
-}
-
 /// `rtype = "void" | data | "struct" id "*"`
 fn rtype<'t>(
     alloc: Global,
@@ -242,12 +166,17 @@ fn rtype<'t>(
     ensures err { IfErr result (Stops read_rtype bounds.now left.now) }
 {
     if is_next(left, Sign::Void) {
-        return void_type(alloc, bounds, left);
+        let (token, rest) = take(bounds, left, Sign::Void)?;
+        return Ok((ReturnType::Void { at: token.at }, rest));
     }
     if begins_data(peek(left)) {
-        return data_type(alloc, bounds, left);
+        let (data, rest) = data(alloc, bounds, left)?;
+        return Ok((ReturnType::Data(data), rest));
     }
-    pointer_type(alloc, bounds, left)
+    let (head, rest) = named(alloc, bounds, Sign::Struct, left)?;
+    let (_, rest) = take(bounds, rest, Sign::Star)?;
+    let (at, name) = head;
+    Ok((ReturnType::Pointer { at, name }, rest))
 }
 
 /// `rtype id "(" [ params ] ")"`

@@ -1,5 +1,5 @@
 -- What the functions of items read: rules, with the signs that can continue them.
-use Rattle.std.specs.Prelude.{Bool, true, false, List, Option, Some, None, ◌∷◌}
+use Rattle.std.specs.Prelude.{Bool, true, false, List, Option, ◌∷◌}
 use Rattle.std.proofs.Common.{inl, inr}
 use Rattle.fore_base.specs.declared.place.Place.{Place}
 use Rattle.c_ast.specs.declared.items.Field.{Field}
@@ -8,7 +8,6 @@ use Rattle.c_ast.specs.declared.items.Item.{Item}
 use Rattle.c_ast.specs.declared.items.Item.TheVariants as item'
 use Rattle.c_ast.specs.declared.items.Param.{Param}
 use Rattle.c_ast.specs.declared.items.Params.{Params}
-use Rattle.c_ast.specs.declared.items.Params.TheVariants as params'
 use Rattle.c_ast.specs.declared.items.ReturnType.{ReturnType}
 use Rattle.c_ast.specs.declared.items.ReturnType.TheVariants as return'
 use Rattle.c_ast.specs.declared.operands.Name.{Name}
@@ -105,14 +104,6 @@ read_next_param = record
 abbrev pub read_all_params : Shape (List Param)
 read_all_params = record { rule = λ n. s.series sign.Comma i.param; cont = commas; bars = no_sign; heads = no_sign }
 
-abbrev pub read_void_params : Shape Params
-read_void_params = record
-    { rule = λ n. Made params'.Void (s.at sign.Void); cont = no_sign; bars = no_sign; heads = no_sign }
-
-abbrev pub read_list_params : Shape Params
-read_list_params = record
-    { rule = λ n. Made params'.List (s.series sign.Comma i.param); cont = commas; bars = no_sign; heads = no_sign }
-
 abbrev pub read_params : Shape Params
 read_params = record { rule = λ n. i.params; cont = commas; bars = no_sign; heads = no_sign }
 
@@ -122,56 +113,14 @@ read_maybe_params = record { rule = λ n. s.optional i.params; cont = params_go_
 abbrev pub read_closed_params : Shape (Option Params)
 read_closed_params = record { rule = λ n. i.closed_params; cont = no_sign; bars = no_sign; heads = no_sign }
 
-abbrev pub read_void_type : Shape ReturnType
-read_void_type =
-    record { rule = λ n. Made return'.Void (s.at sign.Void); cont = no_sign; bars = no_sign; heads = no_sign }
-
-abbrev pub read_data_type : Shape ReturnType
-read_data_type = record { rule = λ n. Made return'.Data s.data_part; cont = no_sign; bars = no_sign; heads = no_sign }
-
-abbrev pub read_pointer_type : Shape ReturnType
-read_pointer_type = record {
-  rule = λ n. Made i.return_pointer_of (s.at sign.Struct then s.name then token sign.Star);
-  cont = no_sign;
-  bars = no_sign;
-  heads = no_sign;
-}
-
 abbrev pub read_rtype : Shape ReturnType
 read_rtype = record { rule = λ n. i.rtype; cont = no_sign; bars = no_sign; heads = no_sign }
 
 abbrev pub read_head : Shape Head
 read_head = record { rule = λ n. i.head; cont = no_sign; bars = no_sign; heads = no_sign }
 
-abbrev pub read_body : Shape Block
-read_body = record { rule = s.block; cont = no_sign; bars = elses; heads = no_sign }
-
-abbrev pub read_proto_end : ReturnType → Name → Option Params → Shape Item
-read_proto_end gives name params =
-    record {
-      rule = λ n. Made (λ (t : Token). head_item gives name (params, None)) (token sign.Semicolon);
-      cont = no_sign;
-      bars = no_sign;
-      heads = no_sign;
-    }
-
-abbrev pub read_function_end : ReturnType → Name → Option Params → Shape Item
-read_function_end gives name params =
-    record {
-      rule = λ n. Made (λ (b : Block). head_item gives name (params, Some b)) (s.block n);
-      cont = no_sign;
-      bars = elses;
-      heads = no_sign;
-    }
-
-abbrev pub read_ending_of : ReturnType → Name → Option Params → Shape Item
-read_ending_of gives name params =
-    record {
-      rule = λ n. Made (λ (e : Option Block). head_item gives name (params, e)) (ending n);
-      cont = no_sign;
-      bars = elses;
-      heads = no_sign;
-    }
+abbrev pub read_ending : Shape (Option Block)
+read_ending = record { rule = ending; cont = no_sign; bars = elses; heads = no_sign }
 
 abbrev pub read_called : ReturnType → Name → Shape Item
 read_called gives name =

@@ -1,52 +1,52 @@
-use Rattle.std.proofs.Common.{refl, sym, ◌∙◌, ◌∷◌, []}
-use Rattle.std.proofs.lemmas.Result.{IfOk-weaker, IfErr-weaker}
+use Rattle.std.proofs.Common.{◌≡◌, ℕ, List, true, false, [], ◌∷◌, refl, sym, ◌∙◌}
 use Rattle.c_ast.specs.declared.items.Params.TheVariants as params'
+use Rattle.c_lexer.specs.declared.token.Token.{Token}
+use Rattle.c_grammar.specs.Signs.{sign_at}
+use Rattle.c_grammar.specs.Syntax as s
 use Rattle.c_grammar.specs.declared.signs.Sign.TheVariants as sign
 use Rattle.c_grammar.specs.words.Sets.{among, no_sign, commas}
-use Rattle.c_reader.specs.Bounds.{Reads, Stops}
-use Rattle.c_parser.specs.inner.Shapes.{read_list_params, read_params, read_void_params}
-use Rattle.c_grammar.proofs.Choices.{left_takes, right_takes, left_fails, right_fails}
-use Rattle.c_grammar.proofs.Goods.{named, contd, good_at}
+use Rattle.c_reader.specs.Bounds.{Stops}
+use Rattle.c_parser.specs.inner.Shapes.{read_all_params, read_params}
+use Rattle.c_grammar.proofs.Carrying.{Carries, over, widened, left_carries, right_carries, carry, carry_fails}
+use Rattle.c_grammar.proofs.Families.{made}
+use Rattle.c_grammar.proofs.Goods.{good_at}
 use Rattle.c_grammar.proofs.Items.{good_all_params}
-use Rattle.c_grammar.proofs.Parts.{good_made}
-use Rattle.c_grammar.proofs.Steps.{widen_takes, widen_fails}
+use Rattle.c_grammar.proofs.Parts.{takes_made, fails_made, good_made}
+use Rattle.c_grammar.proofs.Steps.{passed}
+use Rattle.c_grammar.proofs.Tokens.{fails_at, reads_at, real}
 use Rattle.c_parser.proofs.heads.params.Goals as goal
 
-pub returns-then-is_next-clause-ok : goal.returns-then-is_next-clause-ok
-returns-then-is_next-clause-ok c =
-    IfOk-weaker c.void_params.result (λ r. Reads read_void_params c.args.bounds.now c.args.left.now r.1.now r.0)
-    (λ r. Reads read_params c.args.bounds.now c.args.left.now r.1.now r.0)
-    (λ r t. widen_takes _ _ refl refl
-    (left_takes
-    (named (among (sign.Void ∷ [])) no_sign no_sign (good_made (good_at sign.Void) params'.Void) refl refl refl)
-    (contd commas no_sign (good_made good_all_params params'.List) refl refl) refl refl
-    (sym c.is_next.ensures ∙ c.if-is_next.true) t)) c.void_params.ensures.ok
+module _ {n : ℕ} {ts : List Token} where
+  at_void : among (sign.Void ∷ []) (sign_at ts) ≡ true
+      → Carries (made params'.Void (λ n. s.at sign.Void)) no_sign no_sign read_params.rule commas no_sign n ts
+  at_void here = over
+      (left_carries (good_made (good_at sign.Void) params'.Void) (good_made good_all_params params'.List) refl refl
+      here) (widened refl refl)
 
-pub returns-then-is_next-clause-err : goal.returns-then-is_next-clause-err
-returns-then-is_next-clause-err c =
-    IfErr-weaker c.void_params.result (Stops read_void_params c.args.bounds.now c.args.left.now)
-    (Stops read_params c.args.bounds.now c.args.left.now)
-    (λ e x. widen_fails _ _ _ refl refl refl
-    (left_fails
-    (named (among (sign.Void ∷ [])) no_sign no_sign (good_made (good_at sign.Void) params'.Void) refl refl refl)
-    (contd commas no_sign (good_made good_all_params params'.List) refl refl) refl refl
-    (sym c.is_next.ensures ∙ c.if-is_next.true) x)) c.void_params.ensures.err
+  at_list : among (sign.Void ∷ []) (sign_at ts) ≡ false
+      → Carries (made params'.List read_all_params.rule) commas no_sign read_params.rule commas no_sign n ts
+  at_list other = over
+      (right_carries (good_made (good_at sign.Void) params'.Void) (good_made good_all_params params'.List) refl refl
+      refl other) (widened refl refl)
+
+pub returns-in_err-token-clause-err : goal.returns-in_err-token-clause-err
+returns-in_err-token-clause-err c =
+    passed c.from_residual.result (Stops read_params c.args.bounds.now c.args.left.now) c.in_err-token.field-0.0
+    c.from_residual.ensures.1
+    (carry_fails (at_void (sym c.is_next.ensures ∙ c.if-is_next.true))
+    (fails_made params'.Void _ (fails_at sign.Void (real sign.Void tt) c.in_err-token.ensures.err)))
+
+pub returns-then-is_next-clause-ok : goal.returns-then-is_next-clause-ok
+returns-then-is_next-clause-ok c = carry (at_void (sym c.is_next.ensures ∙ c.if-is_next.true))
+    (takes_made params'.Void (reads_at sign.Void c.in_ok-token.ensures.ok))
+
+pub returns-in_err-all-clause-err : goal.returns-in_err-all-clause-err
+returns-in_err-all-clause-err c =
+    passed c.from_residual-in_err-all.result (Stops read_params c.args.bounds.now c.args.left.now)
+    c.in_err-all.field-0.0 c.from_residual-in_err-all.ensures.1
+    (carry_fails (at_list (sym c.is_next.ensures ∙ c.if-is_next.false))
+    (fails_made params'.List _ c.in_err-all.ensures.err))
 
 pub returns-clause-ok : goal.returns-clause-ok
-returns-clause-ok c = IfOk-weaker c.list_params.result
-    (λ r. Reads read_list_params c.args.bounds.now c.args.left.now r.1.now r.0)
-    (λ r. Reads read_params c.args.bounds.now c.args.left.now r.1.now r.0)
-    (λ r t. widen_takes _ _ refl refl
-    (right_takes
-    (named (among (sign.Void ∷ [])) no_sign no_sign (good_made (good_at sign.Void) params'.Void) refl refl refl)
-    (contd commas no_sign (good_made good_all_params params'.List) refl refl) refl refl refl
-    (sym c.is_next.ensures ∙ c.if-is_next.false) t)) c.list_params.ensures.ok
-
-pub returns-clause-err : goal.returns-clause-err
-returns-clause-err c = IfErr-weaker c.list_params.result (Stops read_list_params c.args.bounds.now c.args.left.now)
-    (Stops read_params c.args.bounds.now c.args.left.now)
-    (λ e x. widen_fails _ _ _ refl refl refl
-    (right_fails
-    (named (among (sign.Void ∷ [])) no_sign no_sign (good_made (good_at sign.Void) params'.Void) refl refl refl)
-    (contd commas no_sign (good_made good_all_params params'.List) refl refl) refl refl refl
-    (sym c.is_next.ensures ∙ c.if-is_next.false) x)) c.list_params.ensures.err
+returns-clause-ok c = carry (at_list (sym c.is_next.ensures ∙ c.if-is_next.false))
+    (takes_made params'.List c.in_ok-all.ensures.ok)

@@ -1,67 +1,74 @@
-use Rattle.std.proofs.Common.{refl, sym, ap, ◌∙◌}
-use Rattle.std.proofs.lemmas.Result.{IfOk-weaker, IfErr-weaker}
+use Rattle.std.proofs.Common.{false, refl, sym, ap, ◌∙◌}
+use Rattle.c_ast.specs.declared.items.ReturnType.TheVariants as return'
+use Rattle.c_grammar.specs.Items as i
+use Rattle.c_grammar.specs.declared.signs.Sign.TheVariants as sign
 use Rattle.c_grammar.specs.words.Parted.{begins_data}
-use Rattle.c_reader.specs.Bounds.{Reads, Stops}
-use Rattle.c_parser.specs.inner.Shapes.{read_data_type, read_pointer_type, read_rtype, read_void_type}
-use Rattle.c_statements.proofs.Alternatives.{first_takes, first_fails, second_takes, second_fails}
-use Rattle.c_parser.proofs.TypeForms.{good_void_type, good_data_type, good_pointer_type, good_after_void}
-use Rattle.c_parser.proofs.TypeForms.{void_apart, data_apart}
+use Rattle.c_grammar.specs.words.Sets.{no_sign}
+use Rattle.c_reader.specs.Bounds.{Stops}
+use Rattle.c_statements.specs.Shapes.{read_named}
+use Rattle.c_parser.specs.inner.Shapes.{read_rtype}
+use Rattle.c_grammar.proofs.Carrying.{carry, carry_fails}
+use Rattle.c_grammar.proofs.Closings.{Closed, closed, part_fails, close_fails, takes_closed}
+use Rattle.c_grammar.proofs.Heads.{apart, same_apart}
+use Rattle.c_grammar.proofs.Parts.{takes_made, fails_made, takes_same, fails_same}
+use Rattle.c_grammar.proofs.Steps.{passed, widen_takes, widen_fails}
+use Rattle.c_grammar.proofs.Tokens.{fails_at, reads_at, real}
+use Rattle.c_statements.proofs.Words.{good_named}
+use Rattle.c_parser.proofs.TypeForms.{structs, at_void, at_data, at_pointer}
 use Rattle.c_parser.proofs.heads.rtype.Goals as goal
 
-pub returns-then-is_next-clause-ok : goal.returns-then-is_next-clause-ok
-returns-then-is_next-clause-ok c =
-    IfOk-weaker c.void_type.result (λ r. Reads read_void_type c.args.bounds.now c.args.left.now r.1.now r.0)
-    (λ r. Reads read_rtype c.args.bounds.now c.args.left.now r.1.now r.0)
-    (λ r t. first_takes good_void_type good_after_void void_apart refl
-    (sym c.is_next.ensures ∙ c.if-is_next.true) t)
-    c.void_type.ensures.ok
+starred : Closed (read_named sign.Struct).rule structs no_sign no_sign false sign.Star
+starred = closed (good_named sign.Struct) (real sign.Star tt) refl refl refl
 
-pub returns-then-is_next-clause-err : goal.returns-then-is_next-clause-err
-returns-then-is_next-clause-err c =
-    IfErr-weaker c.void_type.result (Stops read_void_type c.args.bounds.now c.args.left.now)
-    (Stops read_rtype c.args.bounds.now c.args.left.now)
-    (λ e f. first_fails good_void_type good_after_void void_apart refl
-    (sym c.is_next.ensures ∙ c.if-is_next.true) f)
-    c.void_type.ensures.err
+pub returns-in_err-token-clause-err : goal.returns-in_err-token-clause-err
+returns-in_err-token-clause-err c =
+    passed c.from_residual.result (Stops read_rtype c.args.bounds.now c.args.left.now) c.in_err-token.field-0.0
+    c.from_residual.ensures.1
+    (carry_fails (at_void (sym c.is_next.ensures ∙ c.if-is_next.true))
+    (fails_made return'.Void _ (fails_at sign.Void (real sign.Void tt) c.in_err-token.ensures.err)))
+
+pub returns-then-is_next-clause-ok : goal.returns-then-is_next-clause-ok
+returns-then-is_next-clause-ok c = carry (at_void (sym c.is_next.ensures ∙ c.if-is_next.true))
+    (takes_made return'.Void (reads_at sign.Void c.in_ok-token.ensures.ok))
+
+pub returns-in_err-data-clause-err : goal.returns-in_err-data-clause-err
+returns-in_err-data-clause-err c =
+    passed c.from_residual-in_err-data.result (Stops read_rtype c.args.bounds.now c.args.left.now)
+    c.in_err-data.field-0.0 c.from_residual-in_err-data.ensures.1
+    (carry_fails (at_data (sym c.is_next.ensures ∙ c.if-is_next.false)
+    (sym (ap (λ s. begins_data s) c.peek.ensures) ∙ sym c.begins_data.ensures ∙ c.if-begins_data.true))
+    (fails_made return'.Data _ c.in_err-data.ensures.err))
 
 pub returns-then-begins_data-clause-ok : goal.returns-then-begins_data-clause-ok
-returns-then-begins_data-clause-ok c =
-    IfOk-weaker c.data_type.result (λ r. Reads read_data_type c.args.bounds.now c.args.left.now r.1.now r.0)
-    (λ r. Reads read_rtype c.args.bounds.now c.args.left.now r.1.now r.0)
-    (λ r t. second_takes good_void_type good_after_void void_apart refl
-    (sym c.is_next.ensures ∙ c.if-is_next.false)
-    (first_takes good_data_type good_pointer_type data_apart refl
-    (sym (ap (λ s. begins_data s) c.peek.ensures) ∙ sym c.begins_data.ensures ∙ c.if-begins_data.true) t))
-    c.data_type.ensures.ok
+returns-then-begins_data-clause-ok c = carry (at_data (sym c.is_next.ensures ∙ c.if-is_next.false)
+    (sym (ap (λ s. begins_data s) c.peek.ensures) ∙ sym c.begins_data.ensures ∙ c.if-begins_data.true))
+    (takes_made return'.Data c.in_ok-data.ensures.ok)
 
-pub returns-then-begins_data-clause-err : goal.returns-then-begins_data-clause-err
-returns-then-begins_data-clause-err c =
-    IfErr-weaker c.data_type.result (Stops read_data_type c.args.bounds.now c.args.left.now)
-    (Stops read_rtype c.args.bounds.now c.args.left.now)
-    (λ e f. second_fails good_void_type good_after_void void_apart refl
-    (sym c.is_next.ensures ∙ c.if-is_next.false)
-    (first_fails good_data_type good_pointer_type data_apart refl
-    (sym (ap (λ s. begins_data s) c.peek.ensures) ∙ sym c.begins_data.ensures ∙ c.if-begins_data.true) f))
-    c.data_type.ensures.err
+pub returns-in_err-head-clause-err : goal.returns-in_err-head-clause-err
+returns-in_err-head-clause-err c =
+    passed c.from_residual-in_err-head.result (Stops read_rtype c.args.bounds.now c.args.left.now)
+    c.in_err-head.field-0.0 c.from_residual-in_err-head.ensures.1
+    (carry_fails (at_pointer (sym c.is_next.ensures ∙ c.if-is_next.false)
+    (sym (ap (λ s. begins_data s) c.peek.ensures) ∙ sym c.begins_data.ensures ∙ c.if-begins_data.false))
+    (fails_same (same_apart i.return_pointer_of) _
+    (widen_fails _ _ _ refl refl refl
+    (fails_made (apart i.return_pointer_of) _ (part_fails starred c.in_err-head.ensures.err)))))
+
+pub returns-in_err-rest-clause-err : goal.returns-in_err-rest-clause-err
+returns-in_err-rest-clause-err c =
+    passed c.from_residual-in_err-rest.result (Stops read_rtype c.args.bounds.now c.args.left.now)
+    c.in_err-rest.field-0.0 c.from_residual-in_err-rest.ensures.1
+    (carry_fails (at_pointer (sym c.is_next.ensures ∙ c.if-is_next.false)
+    (sym (ap (λ s. begins_data s) c.peek.ensures) ∙ sym c.begins_data.ensures ∙ c.if-begins_data.false))
+    (fails_same (same_apart i.return_pointer_of) _
+    (widen_fails _ _ _ refl refl refl
+    (fails_made (apart i.return_pointer_of) _
+    (close_fails starred c.in_ok-head.ensures.ok c.in_err-rest.ensures.err)))))
 
 pub returns-clause-ok : goal.returns-clause-ok
-returns-clause-ok c =
-    IfOk-weaker c.pointer_type.result (λ r. Reads read_pointer_type c.args.bounds.now c.args.left.now r.1.now r.0)
-    (λ r. Reads read_rtype c.args.bounds.now c.args.left.now r.1.now r.0)
-    (λ r t. second_takes good_void_type good_after_void void_apart refl
-    (sym c.is_next.ensures ∙ c.if-is_next.false)
-    (second_takes good_data_type good_pointer_type data_apart refl
-    (sym (ap (λ s. begins_data s) c.peek.ensures) ∙ sym c.begins_data.ensures ∙ c.if-begins_data.false)
-    t))
-    c.pointer_type.ensures.ok
-
-pub returns-clause-err : goal.returns-clause-err
-returns-clause-err c =
-    IfErr-weaker c.pointer_type.result (Stops read_pointer_type c.args.bounds.now c.args.left.now)
-    (Stops read_rtype c.args.bounds.now c.args.left.now)
-    (λ e f. second_fails good_void_type good_after_void void_apart refl
-    (sym c.is_next.ensures ∙ c.if-is_next.false)
-    (second_fails good_data_type good_pointer_type data_apart refl
-    (sym (ap (λ s. begins_data s) c.peek.ensures) ∙ sym c.begins_data.ensures ∙ c.if-begins_data.false)
-    f))
-    c.pointer_type.ensures.err
+returns-clause-ok c = carry (at_pointer (sym c.is_next.ensures ∙ c.if-is_next.false)
+    (sym (ap (λ s. begins_data s) c.peek.ensures) ∙ sym c.begins_data.ensures ∙ c.if-begins_data.false))
+    (takes_same (same_apart i.return_pointer_of)
+    (widen_takes _ _ refl refl
+    (takes_made (apart i.return_pointer_of)
+    (takes_closed starred c.in_ok-head.ensures.ok c.in_ok-rest.ensures.ok))))
