@@ -1,19 +1,23 @@
 -- The kinds of items, by their first token, and what is left of them after the first ones.
-use Rattle.std.proofs.Common.{false, [], ◌∷◌, refl}
+use Rattle.std.proofs.Common.{◌≡◌, ℕ, true, false, List, [], ◌∷◌, refl}
 use Rattle.c_ast.specs.declared.items.Item.{Item}
+use Rattle.c_lexer.specs.declared.token.Token.{Token}
 use Rattle.c_grammar.specs.Grammar.{Rule}
+use Rattle.c_grammar.specs.Signs.{sign_at}
 use Rattle.c_grammar.specs.declared.signs.Sign.TheVariants as sign
 use Rattle.c_grammar.specs.words.Parted.{extern_of, void_of, int_of, enum_item_of, struct_item_of}
 use Rattle.c_grammar.specs.words.Sets.{Signs, among, no_sign, elses}
-use Rattle.c_parser.specs.inner.Shapes.{read_enum_item, read_extern_item, read_int_item, read_struct_item}
+use Rattle.c_parser.specs.inner.Shapes.{read_enum_item, read_extern_item, read_int_item, read_item, read_struct_item}
 use Rattle.c_parser.specs.inner.Shapes.{read_void_item}
+use Rattle.c_grammar.proofs.Carrying.{Carries, over, same_carries}
 use Rattle.c_grammar.proofs.Families.{choice}
 use Rattle.c_grammar.proofs.Goods.{named}
+use Rattle.c_grammar.proofs.ItemForms.{same_item}
 use Rattle.c_grammar.proofs.Items.{good_enum_item, good_extern_item, good_int_item, good_struct_item, good_void_item}
 use Rattle.c_grammar.proofs.Parts.{good_made, first_either}
 use Rattle.c_grammar.proofs.Rules.{Good}
 use Rattle.c_grammar.proofs.Steps.{Clear}
-use Rattle.c_statements.proofs.Alternatives.{either}
+use Rattle.c_statements.proofs.Alternatives.{either, first_carries, second_carries}
 
 abbrev pub externs : Signs
 externs = among (sign.Extern ∷ [])
@@ -84,3 +88,35 @@ good_after_extern = either good_void good_after_void void_apart refl
 
 pub extern_apart : Clear externs begins_after_extern
 extern_apart = refl
+
+-- what this rule reads here is an item
+abbrev pub IsItem : Rule Item → ℕ → List Token → Type 0
+IsItem A n ts = Carries A no_sign elses read_item.rule no_sign elses n ts
+
+module _ {n : ℕ} {ts : List Token} where
+  pub at_extern : externs (sign_at ts) ≡ true → IsItem read_extern_item.rule n ts
+  at_extern here = over (first_carries good_extern good_after_extern extern_apart refl here) (same_carries same_item)
+
+  module _ (own : externs (sign_at ts) ≡ false) where
+    past_extern : IsItem after_extern n ts
+    past_extern = over (second_carries good_extern good_after_extern extern_apart refl own) (same_carries same_item)
+
+    pub at_void : voids (sign_at ts) ≡ true → IsItem read_void_item.rule n ts
+    at_void here = over (first_carries good_void good_after_void void_apart refl here) past_extern
+
+    module _ (gives : voids (sign_at ts) ≡ false) where
+      past_void : IsItem after_void n ts
+      past_void = over (second_carries good_void good_after_void void_apart refl gives) past_extern
+
+      pub at_int : ints (sign_at ts) ≡ true → IsItem read_int_item.rule n ts
+      at_int here = over (first_carries good_int good_after_int int_apart refl here) past_void
+
+      module _ (other : ints (sign_at ts) ≡ false) where
+        past_int : IsItem after_int n ts
+        past_int = over (second_carries good_int good_after_int int_apart refl other) past_void
+
+        pub at_enum : enums (sign_at ts) ≡ true → IsItem read_enum_item.rule n ts
+        at_enum here = over (first_carries good_enum good_struct enum_apart refl here) past_int
+
+        pub at_struct : enums (sign_at ts) ≡ false → IsItem read_struct_item.rule n ts
+        at_struct last = over (second_carries good_enum good_struct enum_apart refl last) past_int
