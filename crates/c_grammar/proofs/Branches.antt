@@ -6,7 +6,6 @@ use Rattle.c_ast.specs.declared.statements.Stmt.{Stmt}
 use Rattle.c_ast.specs.declared.statements.Stmt.TheVariants as stmt'
 use Rattle.c_lexer.specs.declared.token.Token.{Token}
 use Rattle.c_grammar.specs.words.Faults.{Alive, Dead, Fails, Takes}
-use Rattle.c_grammar.specs.words.Faults.Fails.{stuck, sunk, no_memory}
 use Rattle.c_grammar.specs.Grammar.{Rule, token, ◌then◌, Made}
 use Rattle.c_grammar.specs.words.Sets.{no_sign, elses, begins_stmt}
 use Rattle.c_grammar.specs.Signs.{sign_at}
@@ -15,7 +14,7 @@ use Rattle.c_grammar.specs.declared.fault.SyntaxFault.{SyntaxFault}
 use Rattle.c_grammar.specs.declared.signs.Sign.TheVariants as sign
 use Rattle.c_grammar.proofs.Decide.{apart_of, within}
 use Rattle.c_grammar.proofs.Goods.{named}
-use Rattle.c_grammar.proofs.Rules.{Good, Fits, fails_front, fails_back, bars_both, same_head, nonempty}
+use Rattle.c_grammar.proofs.Rules.{Good, Fits, fails_map, fails_front, fails_back, bars_both, same_head, nonempty}
 use Rattle.c_grammar.proofs.Statements.{good_stmt, good_other}
 use Rattle.c_grammar.proofs.Readings.{and_then}
 use Rattle.c_grammar.proofs.Levels.{empty_stmt}
@@ -68,30 +67,7 @@ module _ (n : ℕ) (end : Place) (mid : List Token) (here : sign_at mid ≡ sign
 
   pub other_fails : (e : SyntaxFault) → Fails Else no_sign elses no_sign n end mid e
       → Fails (λ n. other_part (stmt n)) no_sign elses no_sign n end mid e
-  other_fails _ (stuck p) =
-      stuck
-      (record {
-        pre = p.pre;
-        post = p.post;
-        is = p.is;
-        place = p.place;
-        alive = alive_other n p.pre p.alive;
-        dead = λ m. other_dead m p.pre p.post p.is (p.dead m);
-      })
-  other_fails _ (sunk p) = sunk (record {
-    pre = p.pre;
-    next = p.next;
-    post = p.post;
-    is = p.is;
-    place = p.place;
-    early = p.early;
-    alive = alive_other n p.pre p.alive;
-    dead = λ m le. other_dead m p.pre (p.next ∷ p.post) p.is (p.dead m le);
-    room = p.room;
-    higher = p.higher;
-    deeper = alive_other p.room (p.pre ++ p.next ∷ []) p.deeper;
-  })
-  other_fails _ no_memory = no_memory
+  other_fails e h = fails_map n (λ m le. alive_other m) other_dead (λ s h. h) e h
 
   pub other_takes : (rest : List Token) (x : Stmt) → Takes Else no_sign elses n mid rest x
       → Takes (λ n. other_part (stmt n)) no_sign elses n mid rest (Some x)

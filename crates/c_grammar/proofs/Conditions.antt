@@ -25,14 +25,15 @@ use Rattle.c_grammar.specs.declared.fault.SyntaxFault.TheVariants.{Syntax, Deep}
 use Rattle.c_grammar.specs.declared.signs.Sign.{Sign}
 use Rattle.c_grammar.specs.declared.signs.Sign.TheVariants as sign
 use Rattle.c_grammar.proofs.Decide.{apart_of, within, inside}
-use Rattle.c_grammar.proofs.Families.{one}
 use Rattle.c_grammar.proofs.Endings.{ends_at}
 use Rattle.c_grammar.proofs.Goods.{named, good_one, good_at, good_operand}
 use Rattle.c_grammar.proofs.Parts.{Same, good_made, good_nothing, good_level, good_same, takes_made, fails_made}
 use Rattle.c_grammar.proofs.Parts.{fails_same, takes_same, takes_nothing, takes_token, takes_left, takes_right}
 use Rattle.c_grammar.proofs.Parts.{fails_left, fails_right, fails_first, fails_level, takes_level}
+use Rattle.c_grammar.proofs.Readings.{null_there}
 use Rattle.c_grammar.proofs.Repeats.{good_many}
 use Rattle.c_grammar.proofs.Rules.{Good}
+use Rattle.c_grammar.proofs.Sequences.{least_one}
 use Rattle.c_grammar.proofs.Statements.{good_sides, good_side, good_maybe_side, good_compared, good_factored_test}
 use Rattle.c_grammar.proofs.Statements.{factored_test, to_test, from_test, unary_over, good_unary_over}
 use Rattle.c_grammar.proofs.Statements.{good_inner_unary, good_cond}
@@ -106,18 +107,7 @@ pub least_operand : (n : ℕ) → Alive operand no_sign n []
 least_operand n = record {
   more = sample sign.Null ∷ [];
   tree = operand'.Null (sample sign.Null).at;
-  reads =
-      λ y h.
-      inr
-      (inr
-      (inr
-      (inl
-      (record {
-        part = (sample sign.Null).at;
-        read = record { part = sample sign.Null; read = (refl, sampled sign.Null (real sign.Null tt)); is = refl };
-        is =
-            refl;
-      }))));
+  reads = λ y h. null_there y;
 }
 
 pub least_unary : (n : ℕ) → Alive unary no_sign n []
@@ -381,14 +371,6 @@ good_brackets : Good (λ n. at sign.Open then cond n then token sign.Close) (amo
 good_brackets = named (among (sign.Open ∷ [])) no_sign no_sign (good_pair (good_at sign.Open) good_closed refl) refl
     refl refl
 
-least_close : (n : ℕ) → Alive (one sign.Close) no_sign n []
-least_close n =
-    record {
-      more = sample sign.Close ∷ [];
-      tree = sample sign.Close;
-      reads = λ y h. (refl, sampled sign.Close (real sign.Close tt));
-    }
-
 module _ (n : ℕ) (end : Place) (ts rest : List Token) (t : Token) (is : ts ≡ t ∷ rest) where
   pub not_fails : (e : SyntaxFault) → sign_of t ≡ sign.Not
       → Fails unary operand_goes_on no_sign begins_nested n end rest e
@@ -431,7 +413,7 @@ module _ (n : ℕ) (end : Place) (ts rest : List Token) (t : Token) (is : ts ≡
       → Fails inner_unary operand_goes_on no_sign no_sign n end ts e
   bad_cond e told f = bracket_fails e told
       (widen_fails no_sign no_sign begins_nested refl refl refl
-      (in_front good_cond (good_one sign.Close) refl refl (least_close n) f))
+      (in_front good_cond (good_one sign.Close) refl refl (least_one sign.Close (real sign.Close tt) n) f))
 
   pub no_close : (e : SyntaxFault) (later : List Token) (x : Cond) → sign_of t ≡ sign.Open
       → Takes cond cond_goes_on no_sign n rest later x → e ≡ Syntax (place_at end later) → sign_at later ≢ sign.Close →

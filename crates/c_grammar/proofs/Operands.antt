@@ -20,7 +20,6 @@ use Rattle.c_grammar.specs.declared.fault.SyntaxFault.{SyntaxFault}
 use Rattle.c_grammar.specs.declared.fault.SyntaxFault.TheVariants.{Syntax, Deep}
 use Rattle.c_grammar.specs.declared.signs.Sign.TheVariants as sign
 use Rattle.c_grammar.proofs.Decide.{apart_of, within}
-use Rattle.c_grammar.proofs.Families.{one}
 use Rattle.c_grammar.proofs.Goods.{good_one, good_name, good_arrows, good_more_operands, good_operands}
 use Rattle.c_grammar.proofs.Goods.{good_some_operands, good_closed_operands, good_arguments, good_argument, good_tail}
 use Rattle.c_grammar.proofs.Goods.{good_word, good_literal, tail_part, word_of, Tail, factored, inner_arguments}
@@ -29,8 +28,10 @@ use Rattle.c_grammar.proofs.Lists.{Leads}
 use Rattle.c_grammar.proofs.Parts.{Same, good_made, good_nothing, good_level, takes_made, fails_made, fails_same}
 use Rattle.c_grammar.proofs.Parts.{takes_same, takes_nothing, takes_left, takes_right, fails_left, fails_right}
 use Rattle.c_grammar.proofs.Parts.{fails_level, takes_level, takes_token}
+use Rattle.c_grammar.proofs.Readings.{null_there}
 use Rattle.c_grammar.proofs.Repeats.{least_many}
 use Rattle.c_grammar.proofs.Rules.{Good}
+use Rattle.c_grammar.proofs.Sequences.{least_one}
 use Rattle.c_grammar.proofs.Steps.{pair, in_front, in_back, widen_takes, widen_fails}
 use Rattle.c_grammar.proofs.Tokens.{sample, sampled, real, fails_one, takes_name}
 use Rattle.c_grammar.specs.Hopeless.{opener, place_at}
@@ -55,30 +56,11 @@ least_closed n = record {
       };
 }
 
-least_close : (n : ℕ) → Alive (one sign.Close) no_sign n []
-least_close n =
-    record {
-      more = sample sign.Close ∷ [];
-      tree = sample sign.Close;
-      reads = λ y h. (refl, sampled sign.Close (real sign.Close tt));
-    }
-
 pub least_argument : (n : ℕ) → Alive argument no_sign n []
 least_argument n = record {
   more = sample sign.Null ∷ [];
   tree = operand'.Null (sample sign.Null).at;
-  reads =
-      λ y h.
-      inr
-      (inr
-      (inr
-      (inl
-      (record {
-        part = (sample sign.Null).at;
-        read = record { part = sample sign.Null; read = (refl, sampled sign.Null (real sign.Null tt)); is = refl };
-        is =
-            refl;
-      }))));
+  reads = λ y h. null_there y;
 }
 
 -- a list in brackets
@@ -95,7 +77,8 @@ module _ (n : ℕ) (end : Place) (ts : List Token) (e : SyntaxFault) where
   bad_inside t rest is told f = widen_fails no_sign no_sign no_sign refl refl refl (fails_made middle e
       (in_back (good_one sign.Open) (good_closed_operands gs) refl refl refl (takes_token sign.Open n ts rest t is told)
       (widen_fails no_sign no_sign no_sign refl refl refl
-      (in_front (good_some_operands gs) (good_one sign.Close) refl refl (least_close n) f))))
+      (in_front (good_some_operands gs) (good_one sign.Close) refl refl
+      (least_one sign.Close (real sign.Close tt) n) f))))
 
   pub no_close : (t : Token) (rest later : List Token) (os : List Operand) → ts ≡ t ∷ rest → sign_of t ≡ sign.Open
       → Takes some_arguments.rule arguments_go_on no_sign n rest later os →

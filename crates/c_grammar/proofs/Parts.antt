@@ -14,7 +14,7 @@ use Rattle.c_grammar.specs.words.Sets.{Signs, no_sign}
 use Rattle.c_grammar.specs.Signs.{or_on, and, sign_of, sign_at}
 use Rattle.c_grammar.specs.declared.signs.Sign.{Sign}
 use Rattle.c_grammar.proofs.SignLemmas.{clash, or_left, or_right, or_first, or_second, and_of, and_gives}
-use Rattle.c_grammar.proofs.Rules.{Apart, Front, Good, same_head, bars_both}
+use Rattle.c_grammar.proofs.Rules.{Apart, Front, Good, same_head, bars_both, fails_map}
 
 -- a rule that is not empty stops at a token that cannot begin it
 pub fails_first : {X : Type 0} {A : Rule X} {fa ca ba ha : Signs} → Good A fa ca ba false
@@ -81,30 +81,8 @@ alive_made f a =
 
 pub fails_made : {X Y : Type 0} {A : Rule X} {ca ba ha : Signs} {n : ℕ} {end : Place} {ts : List Token} (f : X → Y)
     (e : SyntaxFault) → Fails A ca ba ha n end ts e → Fails (made f A) ca ba ha n end ts e
-fails_made f _ (stuck p) =
-    stuck
-    (record {
-      pre = p.pre;
-      post = p.post;
-      is = p.is;
-      place = p.place;
-      alive = alive_made f p.alive;
-      dead = λ m z y x s h r. p.dead m z y r.part s h r.read;
-    })
-fails_made f _ (sunk p) = sunk (record {
-  pre = p.pre;
-  next = p.next;
-  post = p.post;
-  is = p.is;
-  place = p.place;
-  early = p.early;
-  alive = alive_made f p.alive;
-  dead = λ m le z y x s h r. p.dead m le z y r.part s h r.read;
-  room = p.room;
-  higher = p.higher;
-  deeper = alive_made f p.deeper;
-})
-fails_made f _ no_memory = no_memory
+fails_made f e h = fails_map _ (λ m le pre a. alive_made f a)
+    (λ m pre post is d z y x same k r. d z y r.part same k r.read) (λ s h. h) e h
 
 pub takes_made : {X Y : Type 0} {A : Rule X} {ca ba : Signs} {n : ℕ} {ts rest : List Token} {x : X} (f : X → Y)
     → Takes A ca ba n ts rest x → Takes (made f A) ca ba n ts rest (f x)
@@ -149,28 +127,8 @@ alive_to to a = record { more = a.more; tree = a.tree; reads = λ y h. to y a.tr
 
 pub fails_same : {X : Type 0} {A B : Rule X} {ca ba ha : Signs} {n : ℕ} {end : Place} {ts : List Token} → Same A B
     → (e : SyntaxFault) → Fails A ca ba ha n end ts e → Fails B ca ba ha n end ts e
-fails_same {n = n} s _ (stuck p) = stuck (record {
-  pre = p.pre;
-  post = p.post;
-  is = p.is;
-  place = p.place;
-  alive = alive_to (λ y x ts. s.to n ts y x) p.alive;
-  dead = λ m z y x same h r. p.dead m z y x same h (s.back m _ y x r);
-})
-fails_same {n = n} s _ (sunk p) = sunk (record {
-  pre = p.pre;
-  next = p.next;
-  post = p.post;
-  is = p.is;
-  place = p.place;
-  early = p.early;
-  alive = alive_to (λ y x ts. s.to n ts y x) p.alive;
-  dead = λ m le z y x same h r. p.dead m le z y x same h (s.back m _ y x r);
-  room = p.room;
-  higher = p.higher;
-  deeper = alive_to (λ y x ts. s.to p.room ts y x) p.deeper;
-})
-fails_same s _ no_memory = no_memory
+fails_same {n = n} same e h = fails_map n (λ m le pre a. alive_to (λ y x ts. same.to m ts y x) a)
+    (λ m pre post is d z y x told k r. d z y x told k (same.back m _ y x r)) (λ s h. h) e h
 
 pub takes_same : {X : Type 0} {A B : Rule X} {ca ba : Signs} {n : ℕ} {ts rest : List Token} {x : X} → Same A B
     → Takes A ca ba n ts rest x → Takes B ca ba n ts rest x
@@ -208,30 +166,8 @@ alive_within w a = record { more = a.more; tree = a.tree; reads = λ y h. a.read
 pub fails_within : {X : Type 0} {A : Rule X} {ca ba ha cb bb hb : Signs} {n : ℕ} {end : Place} {ts : List Token}
     → Within ca cb → Within ba bb → ((s : Sign) → ha s ≡ true → hb s ≡ true) → (e : SyntaxFault) →
     Fails A ca ba ha n end ts e → Fails A cb bb hb n end ts e
-fails_within c b h _ (stuck p) =
-    stuck
-    (record {
-      pre = p.pre;
-      post = p.post;
-      is = p.is;
-      place = p.place;
-      alive = alive_within b p.alive;
-      dead = λ m z y x same k. p.dead m z y x same (c _ k);
-    })
-fails_within c b h _ (sunk p) = sunk (record {
-  pre = p.pre;
-  next = p.next;
-  post = p.post;
-  is = p.is;
-  place = p.place;
-  early = λ e. h _ (p.early e);
-  alive = alive_within b p.alive;
-  dead = λ m le z y x same k. p.dead m le z y x same (c _ k);
-  room = p.room;
-  higher = p.higher;
-  deeper = alive_within b p.deeper;
-})
-fails_within c b h _ no_memory = no_memory
+fails_within c b h e f = fails_map _ (λ m le pre a. alive_within b a)
+    (λ m pre post is d z y x same k. d z y x same (c _ k)) h e f
 
 pub takes_within : {X : Type 0} {A : Rule X} {ca ba cb bb : Signs} {n : ℕ} {ts rest : List Token} {x : X} → Within ca cb
     → Within ba bb → Takes A ca ba n ts rest x → Takes A cb bb n ts rest x
@@ -340,57 +276,15 @@ module _ {X : Type 0} {A B : Rule X} {fa ca ba fb cb bb : Signs} {na nb : Bool} 
 
   pub fails_left : {ha : Signs} (n : ℕ) (end : Place) (ts : List Token) → fa (sign_at ts) ≡ true → (e : SyntaxFault)
       → Fails A ca ba ha n end ts e → Fails (choice A B) cont (bars_both ba bb) ha n end ts e
-  fails_left n end ts first _ (stuck p) = stuck (record {
-    pre = p.pre;
-    post = p.post;
-    is = p.is;
-    place = p.place;
-    alive = alive_left n p.pre p.alive;
-    dead = λ m. dead_either m p.pre p.post (dead_of_left m p.pre p.post (p.dead m))
-        (dead_right m ts p.pre p.post p.is first);
-  })
-  fails_left n end ts first _ (sunk p) = sunk (record {
-    pre = p.pre;
-    next = p.next;
-    post = p.post;
-    is = p.is;
-    place = p.place;
-    early = p.early;
-    alive = alive_left n p.pre p.alive;
-    dead = λ m le. dead_either m p.pre (p.next ∷ p.post) (dead_of_left m p.pre (p.next ∷ p.post) (p.dead m le))
-        (dead_right m ts p.pre (p.next ∷ p.post) p.is first);
-    room = p.room;
-    higher = p.higher;
-    deeper = alive_left p.room (p.pre ++ p.next ∷ []) p.deeper;
-  })
-  fails_left n end ts first _ no_memory = no_memory
+  fails_left n end ts first e h = fails_map n (λ m le. alive_left m)
+      (λ m pre post is d. dead_either m pre post (dead_of_left m pre post d) (dead_right m ts pre post is first))
+      (λ s h. h) e h
 
   pub fails_right : {hb : Signs} → na ≡ false → (n : ℕ) (end : Place) (ts : List Token) → fa (sign_at ts) ≡ false
       → (e : SyntaxFault) → Fails B cb bb hb n end ts e → Fails (choice A B) cont (bars_both ba bb) hb n end ts e
-  fails_right solid n end ts other _ (stuck p) = stuck (record {
-    pre = p.pre;
-    post = p.post;
-    is = p.is;
-    place = p.place;
-    alive = alive_right n p.pre p.alive;
-    dead = λ m. dead_either m p.pre p.post (dead_other solid m ts p.pre p.post p.is other)
-        (dead_of_right m p.pre p.post (p.dead m));
-  })
-  fails_right solid n end ts other _ (sunk p) = sunk (record {
-    pre = p.pre;
-    next = p.next;
-    post = p.post;
-    is = p.is;
-    place = p.place;
-    early = p.early;
-    alive = alive_right n p.pre p.alive;
-    dead = λ m le. dead_either m p.pre (p.next ∷ p.post) (dead_other solid m ts p.pre (p.next ∷ p.post) p.is other)
-        (dead_of_right m p.pre (p.next ∷ p.post) (p.dead m le));
-    room = p.room;
-    higher = p.higher;
-    deeper = alive_right p.room (p.pre ++ p.next ∷ []) p.deeper;
-  })
-  fails_right solid n end ts other _ no_memory = no_memory
+  fails_right solid n end ts other e h = fails_map n (λ m le. alive_right m)
+      (λ m pre post is d. dead_either m pre post (dead_other solid m ts pre post is other) (dead_of_right m pre post d))
+      (λ s h. h) e h
 
   pub takes_left : (n : ℕ) (ts rest : List Token) (x : X) → fa (sign_at ts) ≡ true → Takes A ca ba n ts rest x
       → Takes (choice A B) cont (bars_both ba bb) n ts rest x
@@ -455,6 +349,9 @@ module _ {X : Type 0} {A : Rule X} {fa ca ba : Signs} {na : Bool} (ga : Good A f
   level_dead zero pre post d z y x same h r = r
   level_dead (suc m) pre post d z y x same h r = d m refl z y x same h r
 
+  level_alive : (n : ℕ) (pre : List Token) → Alive A ba n pre → Alive (level A) ba (suc n) pre
+  level_alive n pre a = record { more = a.more; tree = a.tree; reads = a.reads }
+
   pub fails_level : {ha : Signs} (n : ℕ) (end : Place) (ts : List Token) (e : SyntaxFault) → Fails A ca ba ha n end ts e
       → Fails (level A) ca ba ha (suc n) end ts e
   fails_level n end ts _ (stuck p) = stuck (record {
@@ -465,9 +362,6 @@ module _ {X : Type 0} {A : Rule X} {fa ca ba : Signs} {na : Bool} (ga : Good A f
     alive = level_alive n p.pre p.alive;
     dead = λ m. level_dead m p.pre p.post (λ k _. p.dead k);
   })
-    where
-      level_alive : (n : ℕ) (pre : List Token) → Alive A ba n pre → Alive (level A) ba (suc n) pre
-      level_alive n pre a = record { more = a.more; tree = a.tree; reads = a.reads }
   fails_level n end ts _ (sunk p) = sunk (record {
     pre = p.pre;
     next = p.next;
@@ -481,9 +375,6 @@ module _ {X : Type 0} {A : Rule X} {fa ca ba : Signs} {na : Bool} (ga : Good A f
     higher = omega (arith, p.higher);
     deeper = level_alive p.room (p.pre ++ p.next ∷ []) p.deeper;
   })
-    where
-      level_alive : (n : ℕ) (pre : List Token) → Alive A ba n pre → Alive (level A) ba (suc n) pre
-      level_alive n pre a = record { more = a.more; tree = a.tree; reads = a.reads }
   fails_level n end ts _ no_memory = no_memory
 
   pub takes_level : (n : ℕ) (ts rest : List Token) (x : X) → Takes A ca ba n ts rest x

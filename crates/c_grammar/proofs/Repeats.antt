@@ -5,7 +5,6 @@ use Rattle.fore_base.specs.declared.place.Place.{Place}
 use Rattle.c_lexer.specs.declared.token.Token.{Token}
 use Rattle.c_grammar.specs.declared.fault.SyntaxFault.{SyntaxFault}
 use Rattle.c_grammar.specs.words.Faults.{Alive, Dead, Fails, Takes}
-use Rattle.c_grammar.specs.words.Faults.Fails.{stuck, sunk, no_memory}
 use Rattle.c_grammar.specs.Grammar.{Rule, Many}
 use Rattle.c_grammar.proofs.Families.{both, many}
 use Rattle.c_grammar.specs.Grammar.Many.{none, more}
@@ -14,6 +13,7 @@ use Rattle.c_grammar.specs.Signs.{or_on, sign_at}
 use Rattle.c_grammar.specs.declared.signs.Sign.{Sign}
 use Rattle.c_grammar.proofs.SignLemmas.{clash, or_left, or_right, or_of}
 use Rattle.c_grammar.proofs.Rules.{Apart, Front, Good, same_head, other_head, cont_both, bars_both, takes_both}
+use Rattle.c_grammar.proofs.Rules.{fails_map}
 
 abbrev pub cont_many : Signs → Signs → Signs
 cont_many fa ca s = or_on (ca s) (fa s)
@@ -122,60 +122,25 @@ module _ {X : Type 0} {A : Rule X} {fa ca ba : Signs} (ga : Good A fa ca ba fals
             w.only m z y o.0 same (rest_within _ h) o.1;
       }
 
+  many_alive : (n : ℕ) (pre : List Token) → Alive (both A (many A)) (bars_both ba ba) n pre
+      → Alive (many A) ba n pre
+  many_alive n pre a = record {
+    more = a.more;
+    tree = a.tree.0 ∷ a.tree.1;
+    reads = λ y h. one_more n _ y a.tree (a.reads y (or_of (ba (sign_at y)) (ba (sign_at y)) h h));
+  }
+
+  many_dead : (ts : List Token) → fa (sign_at ts) ≡ true → (m : ℕ) (pre post : List Token) → ts ≡ pre ++ post
+      → Dead (both A (many A)) rest_cont m pre post → Dead (many A) (cont_many fa ca) m pre post
+  many_dead ts first m pre post is d z y xs same h r =
+      let o = opened m (pre ++ z) y xs (ap fa (same_head pre z post ts is same) ∙ first) h r in
+      d z y o.0 same (rest_within _ h) o.1
+
   -- where one more fails, or those after it
   pub fails_many : {ha : Signs} (n : ℕ) (end : Place) (ts : List Token) → fa (sign_at ts) ≡ true → (e : SyntaxFault) →
       Fails (both A (many A)) rest_cont (bars_both ba ba) ha n end ts e
       → Fails (many A) (cont_many fa ca) ba ha n end ts e
-  fails_many n end ts first _ (stuck p) = stuck (record {
-    pre = p.pre;
-    post = p.post;
-    is = p.is;
-    place = p.place;
-    alive = many_alive n p.pre p.alive;
-    dead = λ m. many_dead m p.pre p.post p.is (p.dead m);
-  })
-    where
-      many_alive : (n : ℕ) (pre : List Token) → Alive (both A (many A)) (bars_both ba ba) n pre
-          → Alive (many A) ba n pre
-      many_alive n pre a = record {
-        more = a.more;
-        tree = a.tree.0 ∷ a.tree.1;
-        reads = λ y h. one_more n _ y a.tree (a.reads y (or_of (ba (sign_at y)) (ba (sign_at y)) h h));
-      }
-
-      many_dead : (m : ℕ) (pre post : List Token) → ts ≡ pre ++ post → Dead (both A (many A)) rest_cont m pre post
-          → Dead (many A) (cont_many fa ca) m pre post
-      many_dead m pre post is d z y xs same h r =
-          let o = opened m (pre ++ z) y xs (ap fa (same_head pre z post ts is same) ∙ first) h r in
-          d z y o.0 same (rest_within _ h) o.1
-  fails_many n end ts first _ (sunk p) = sunk (record {
-    pre = p.pre;
-    next = p.next;
-    post = p.post;
-    is = p.is;
-    place = p.place;
-    early = p.early;
-    alive = many_alive n p.pre p.alive;
-    dead = λ m le. many_dead m p.pre (p.next ∷ p.post) p.is (p.dead m le);
-    room = p.room;
-    higher = p.higher;
-    deeper = many_alive p.room (p.pre ++ p.next ∷ []) p.deeper;
-  })
-    where
-      many_alive : (n : ℕ) (pre : List Token) → Alive (both A (many A)) (bars_both ba ba) n pre
-          → Alive (many A) ba n pre
-      many_alive n pre a = record {
-        more = a.more;
-        tree = a.tree.0 ∷ a.tree.1;
-        reads = λ y h. one_more n _ y a.tree (a.reads y (or_of (ba (sign_at y)) (ba (sign_at y)) h h));
-      }
-
-      many_dead : (m : ℕ) (pre post : List Token) → ts ≡ pre ++ post → Dead (both A (many A)) rest_cont m pre post
-          → Dead (many A) (cont_many fa ca) m pre post
-      many_dead m pre post is d z y xs same h r =
-          let o = opened m (pre ++ z) y xs (ap fa (same_head pre z post ts is same) ∙ first) h r in
-          d z y o.0 same (rest_within _ h) o.1
-  fails_many n end ts first _ no_memory = no_memory
+  fails_many n end ts first e h = fails_map n (λ m le. many_alive m) (many_dead ts first) (λ s h. h) e h
 
 pub least_many : {X : Type 0} (A : Rule X) (bars : Signs) (n : ℕ) → Alive (many A) bars n []
 least_many A bars n = record { more = []; tree = []; reads = λ y h. none }

@@ -271,6 +271,36 @@ nonempty {A = A} {fa = fa} good full first free {n = n} {x = x} t e =
     elim (good.starts n [] [] x (subst (λ l. A n (l ++ []) [] x) e (t.alike [] (inr free))))
     [ inl f ↦ clash (sym f ∙ first) | inr f ↦ clash (sym f.0 ∙ full) ]
 
+-- a rule fails where another fails that begins with the same tokens: what begins the one begins the other, and what
+-- begins nothing of the one begins nothing of the other
+pub fails_map : {X Y : Type 0} {A : Rule X} {B : Rule Y} {ca ba ha cb bb hb : Signs} (n : ℕ) {end : Place}
+    {ts : List Token} → ((m : ℕ) → n ≤ m → (pre : List Token) → Alive A ba m pre → Alive B bb m pre)
+    → ((m : ℕ) (pre post : List Token) → ts ≡ pre ++ post → Dead A ca m pre post → Dead B cb m pre post)
+    → ((s : Sign) → ha s ≡ true → hb s ≡ true) → (e : SyntaxFault) → Fails A ca ba ha n end ts e →
+    Fails B cb bb hb n end ts e
+fails_map n alive dead heads _ (stuck p) = stuck (record {
+  pre = p.pre;
+  post = p.post;
+  is = p.is;
+  place = p.place;
+  alive = alive n (omega arith) p.pre p.alive;
+  dead = λ m. dead m p.pre p.post p.is (p.dead m);
+})
+fails_map n alive dead heads _ (sunk p) = sunk (record {
+  pre = p.pre;
+  next = p.next;
+  post = p.post;
+  is = p.is;
+  place = p.place;
+  early = λ e. heads _ (p.early e);
+  alive = alive n (omega arith) p.pre p.alive;
+  dead = λ m le. dead m p.pre (p.next ∷ p.post) p.is (p.dead m le);
+  room = p.room;
+  higher = p.higher;
+  deeper = alive p.room p.higher (p.pre ++ p.next ∷ []) p.deeper;
+})
+fails_map n alive dead heads _ no_memory = no_memory
+
 -- the faults of a rule that is made of two parts
 module _ {X Y : Type 0} {A : Rule X} {B : Rule Y} {fa ca ba fb cb bb : Signs} {na nb : Bool} (ga : Good A fa ca ba na)
     (gb : Good B fb cb bb nb)
@@ -279,29 +309,9 @@ module _ {X Y : Type 0} {A : Rule X} {B : Rule Y} {fa ca ba fb cb bb : Signs} {n
       → ((y : List Token) → bars_both ba bb (sign_at y) ≡ false → ba (sign_at (least.more ++ y)) ≡ false)
       → (e : SyntaxFault) → Fails A ca ba ha n end ts e →
       Fails (both A B) (cont_both nb ca cb) (bars_both ba bb) ha n end ts e
-  fails_front n end ts least fits _ (stuck f) = stuck (record {
-    pre = f.pre;
-    post = f.post;
-    is = f.is;
-    place = f.place;
-    alive = alive_front ga gb apart n f.pre f.alive least fits;
-    dead = λ m. dead_front ga gb apart m f.pre f.post (f.dead m);
-  })
-  fails_front n end ts least fits _ (sunk f) = sunk (record {
-    pre = f.pre;
-    next = f.next;
-    post = f.post;
-    is = f.is;
-    place = f.place;
-    early = f.early;
-    alive = alive_front ga gb apart n f.pre f.alive least fits;
-    dead = λ m le. dead_front ga gb apart m f.pre (f.next ∷ f.post) (f.dead m le);
-    room = f.room;
-    higher = f.higher;
-    deeper = alive_front ga gb apart f.room (f.pre ++ f.next ∷ []) f.deeper (higher_least gb n f.room f.higher least)
-        fits;
-  })
-  fails_front n end ts least fits _ no_memory = no_memory
+  fails_front n end ts least fits e f = fails_map n
+      (λ m le pre a. alive_front ga gb apart m pre a (higher_least gb n m le least) fits)
+      (λ m pre post is d. dead_front ga gb apart m pre post d) (λ s h. h) e f
 
   -- `calm`: what opens a level at the very front of the second part is no call's bracket; `solid`: the first part is
   -- not empty, but where it may be

@@ -1,6 +1,6 @@
 -- What the parts of a sequence are given to the whole: shortest readings, and parts that are read into what the whole
 -- makes of them.
-use Rattle.std.proofs.Common.{◌≡◌, ◌≢◌, ℕ, Bool, false, List, [], ◌∷◌, ◌++◌, refl, sym, ◌∙◌, subst, append_assoc, inl}
+use Rattle.std.proofs.Common.{◌≡◌, ◌≢◌, ℕ, Bool, false, List, [], ◌++◌, refl, sym, ◌∙◌, subst, append_assoc, inl}
 use Rattle.std.proofs.Common.{inr}
 use Rattle.std.proofs.lemmas.List.{append_cancel_right}
 use Rattle.fore_base.specs.declared.place.Place.{Place}
@@ -11,12 +11,11 @@ use Rattle.c_grammar.specs.declared.fault.SyntaxFault.{SyntaxFault}
 use Rattle.c_grammar.specs.declared.signs.Sign.{Sign}
 use Rattle.c_grammar.specs.declared.signs.Sign.TheVariants.{End}
 use Rattle.c_grammar.specs.words.Faults.{Alive, Fails, Takes}
-use Rattle.c_grammar.specs.words.Faults.Fails.{stuck, sunk, no_memory}
 use Rattle.c_grammar.specs.words.Sets.{Signs, no_sign}
 use Rattle.c_grammar.proofs.Decide.{apart_of}
 use Rattle.c_grammar.proofs.Families.{both, made, one}
 use Rattle.c_grammar.proofs.Parts.{alive_made, least_token}
-use Rattle.c_grammar.proofs.Rules.{Good, alive_front, follows, bars_both}
+use Rattle.c_grammar.proofs.Rules.{Good, alive_front, fails_map, follows, bars_both}
 use Rattle.c_grammar.proofs.Steps.{Clear}
 use Rattle.c_grammar.proofs.Tokens.{sample, sampled}
 
@@ -72,25 +71,5 @@ module _ {X Y : Type 0} {A : Rule X} {fa ca ba : Signs} {na : Bool} (ga : Good A
 
   pub fails_unmade : {ha : Signs} {n : ℕ} {end : Place} {ts : List Token} → ba End ≡ false → (e : SyntaxFault)
       → Fails (made f A) ca ba ha n end ts e → Fails A ca ba ha n end ts e
-  fails_unmade {n = n} h _ (stuck p) = stuck (record {
-    pre = p.pre;
-    post = p.post;
-    is = p.is;
-    place = p.place;
-    alive = alive_unmade n p.pre h p.alive;
-    dead = λ m z y x same k r. p.dead m z y (f x) same k (record { part = x; read = r; is = refl });
-  })
-  fails_unmade {n = n} h _ (sunk p) = sunk (record {
-    pre = p.pre;
-    next = p.next;
-    post = p.post;
-    is = p.is;
-    place = p.place;
-    early = p.early;
-    alive = alive_unmade n p.pre h p.alive;
-    dead = λ m le z y x same k r. p.dead m le z y (f x) same k (record { part = x; read = r; is = refl });
-    room = p.room;
-    higher = p.higher;
-    deeper = alive_unmade p.room (p.pre ++ p.next ∷ []) h p.deeper;
-  })
-  fails_unmade h _ no_memory = no_memory
+  fails_unmade {n = n} h e p = fails_map n (λ m le pre a. alive_unmade m pre h a)
+      (λ m pre post is d z y x same k r. d z y (f x) same k (record { part = x; read = r; is = refl })) (λ s h. h) e p
