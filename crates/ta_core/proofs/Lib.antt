@@ -7,6 +7,7 @@ pub mod LettingGo
 pub mod Making
 pub mod OneTop
 pub mod Reaching
+pub mod Rounding
 pub mod Runs
 pub mod Shifting
 pub mod Sizing

@@ -1,13 +1,13 @@
--- What a arc adds, and what is reached when no arc adds.
-use Rattle.std.proofs.Common.{◌≡◌, inl, inr, ℕ, zero, suc, ◌<◌, ◌≤◌, ◌+◌, Bool, true, false, true≢false, List, [], ◌∷◌}
-use Rattle.std.proofs.Common.{◌++◌, length, get_or, set, replicate, refl, sym, ap, subst, ◌∙◌, arith, length-set}
+-- What an arc adds, and what is reached when no arc adds.
+use Rattle.std.proofs.Common.{◌≡◌, inl, inr, ℕ, zero, suc, ◌<◌, ◌+◌, Bool, true, false, true≢false, List, [], ◌∷◌}
+use Rattle.std.proofs.Common.{length, get_or, set, replicate, refl, sym, ap, subst, ◌∙◌, arith, length-set}
 use Rattle.std.specs.Bool.{MatchBool}
 use Rattle.fore_base.specs.Lists.{IsIn, Every}
 use Rattle.ta_core.specs.declared.arc.Arc.{Arc}
 use Rattle.ta_core.specs.inner.Closing.{Reached, reach, ReachedAll, reach_none, reach_more, AreReached, IsTaken, Takes}
 use Rattle.ta_core.specs.inner.Closing.{gaps}
 use Rattle.fore_base.specs.Marks.{IsMarked, MarksOf, all_marked}
-use Rattle.fore_base.proofs.ListLemmas.{every_in, every_push}
+use Rattle.fore_base.proofs.ListLemmas.{every_in}
 use Rattle.fore_base.proofs.MarkLemmas.{all_from, all_to, marked_new, unmarked_none}
 
 -- a new mark leaves one gap less
@@ -28,7 +28,7 @@ every_reached : (arcs : List Arc) (marks : List Bool) → AreReached arcs marks 
 every_reached arcs marks f [] h = tt
 every_reached arcs marks f (q ∷ qs) h = (f q h.0, every_reached arcs marks f qs h.1)
 
--- what a arc marks is reached
+-- what an arc marks is reached
 pub arc_reached : (arcs : List Arc) (s : Arc) (marks : List Bool) → IsIn s arcs → all_marked marks s.from ≡ true
     → AreReached arcs marks → AreReached arcs (set marks s.to true)
 arc_reached arcs s marks i a f q m = elim (marked_new marks s.to q m) [
@@ -54,31 +54,19 @@ module _ (arcs : List Arc) (marks : List Bool) (taken : Every (IsTaken marks) ar
   pub closed : (n : ℕ) → length marks ≡ n → AreReached arcs marks → MarksOf n (Reached arcs) marks
   closed n long only = record { long = long; only = only; each = λ q r. reached_marked r }
 
--- the arc at hand adds a mark
-module _ (arcs : List Arc) (s : Arc) (start now new : List Bool) where
-  pub arc_adds : (was : Bool) (done : List Arc) → IsIn s arcs → s.to < length now
-      → MatchBool was (gaps now < gaps start) ((now ≡ start) × Every (IsTaken start) done) → Takes s now new true
-      → (length new ≡ length now) × (AreReached arcs now → AreReached arcs new) × (gaps new < gaps start)
-  arc_adds was done i low before taken = (
-    ap length taken.2 ∙ length-set now s.to true,
-    λ f. subst (AreReached arcs) (sym taken.2) (arc_reached arcs s now i taken.1 f),
-    (let g : gaps now ≡ gaps new + 1 = gaps_set now s.to low taken.0
-        ∙ ap (λ (m : List Bool). gaps m + 1) (sym taken.2) in
-        let l = below was before in omega (arith, g, l)),
-  )
-    where
-      below : (was : Bool) → MatchBool was (gaps now < gaps start) ((now ≡ start) × Every (IsTaken start) done)
-          → gaps now ≤ gaps start
-      below true h = omega arith
-      below false h = let e = ap gaps h.0 in omega (arith, e)
-
-  -- it adds none
-  pub arc_keeps : (was : Bool) (done : List Arc)
-      → MatchBool was (gaps now < gaps start) ((now ≡ start) × Every (IsTaken start) done) → Takes s now new false
-      → MatchBool was (gaps new < gaps start) ((new ≡ start) × Every (IsTaken start) (done ++ s ∷ []))
-  arc_keeps true done before kept = subst (λ (m : List Bool). gaps m < gaps start) (sym kept.0) before
-  arc_keeps false done before kept = (
-    kept.0 ∙ before.0,
-    every_push (IsTaken start) done s before.1
-        (subst (λ (m : List Bool). IsTaken m s) before.0 kept.1),
-  )
+-- an arc that is taken marks what is reached and leaves fewer gaps, or it was taken already
+pub arc_taken : (arcs : List Arc) (n : ℕ) (s : Arc) (now new : List Bool) (added : Bool) → IsIn s arcs × (s.to < n)
+    → (length now ≡ n) × AreReached arcs now → Takes s now new added
+    → ((length new ≡ n) × AreReached arcs new) × MatchBool added (gaps new < gaps now) ((new ≡ now) × IsTaken now s)
+arc_taken arcs n s now new true given kept taken =
+    let k = kept.0 in let low = given.1 in
+    let g = gaps_set now s.to (omega (arith, k, low)) taken.0 in
+    let e = ap gaps taken.2 in (
+      (
+        ap length taken.2 ∙ length-set now s.to true ∙ kept.0,
+        subst (AreReached arcs) (sym taken.2) (arc_reached arcs s now given.0 taken.1 kept.1),
+      ),
+      omega (arith, g, e),
+    )
+arc_taken arcs n s now new false given kept taken =
+    ((ap length taken.0 ∙ kept.0, subst (AreReached arcs) (sym taken.0) kept.1), taken)

@@ -1,10 +1,11 @@
--- Runs that are carried from one list of rules to another.
-use Rattle.std.proofs.Common.{◌≡◌, ℕ, List, [], ◌∷◌, refl, ◌∙◌}
-use Rattle.fore_base.specs.Lists.{IsIn, Paired}
+-- Runs: trees that have some, and runs that are carried from one list of rules to another.
+use Rattle.std.proofs.Common.{◌≡◌, ℕ, List, [], ◌∷◌, refl, subst, ◌∙◌}
+use Rattle.fore_base.specs.Lists.{IsIn, Every, Paired}
 use Rattle.ta_core.specs.declared.auto.Rule.{Rule}
 use Rattle.ta_core.specs.declared.symbol.Symbol.{Symbol}
 use Rattle.ta_core.specs.declared.tree.Tree.{Tree, out-Tree, roll-Tree, out-roll-Tree}
-use Rattle.ta_core.specs.Language.{RunOf, run, RunEach, run_none, run_more}
+use Rattle.ta_core.specs.Language.{RunOf, run, RunEach, run_none, run_more, HasTree, PassesBy, at_top, below, OnePasses}
+use Rattle.ta_core.specs.Language.{this_one, later_one}
 
 -- the tree of the symbol over these children
 abbrev pub tree_of : Symbol → List Tree → Tree
@@ -16,6 +17,21 @@ pub run_tree : (rules : List Rule) (r : Rule) (ts : List Tree) → IsIn r rules 
 run_tree rules r ts i k =
     run r i refl (rw (out-roll-Tree (record { symbol = r.symbol; children = ts })) refl)
     (rw (out-roll-Tree (record { symbol = r.symbol; children = ts })) k)
+
+-- states that have trees have trees side by side
+pub trees_of : (rules : List Rule) (qs : List ℕ) → Every (HasTree rules) qs → (ts : List Tree) × RunEach rules qs ts
+trees_of rules [] h = ([], run_none)
+trees_of rules (q ∷ qs) h = let ts = trees_of rules qs h.1 in (h.0.0 ∷ ts.0, run_more h.0.1 ts.1)
+
+mutual
+  -- a state that a run passes by has a tree
+  pub passed_tree : {rules : List Rule} {q p : ℕ} {t : Tree} → PassesBy rules q p t → HasTree rules q
+  passed_tree {rules} {t = t} (at_top e r) = (t, subst (λ (n : ℕ). RunOf rules n t) e r)
+  passed_tree (below r i e s o) = passed_one o
+
+  passed_one : {rules : List Rule} {q : ℕ} {ps : List ℕ} {ts : List Tree} → OnePasses rules q ps ts → HasTree rules q
+  passed_one (this_one p r) = passed_tree p
+  passed_one (later_one r o) = passed_one o
 
 -- where each rule of a state is matched, for each state that it is related to, by a rule of the other list with the
 -- same symbol and related children, runs to a state are runs to each related one. Only rules count whose children have

@@ -1,8 +1,9 @@
 -- Sizes are those of trees, and no tree is smaller.
-use Rattle.std.proofs.Common.{◌≡◌, ◌⊎◌, inl, inr, ℕ, zero, suc, ◌<◌, ◌≤◌, ◌+◌, ◌^◌, Bool, true, false, true≢false}
-use Rattle.std.proofs.Common.{nat_lt, cond, List, [], ◌∷◌, ◌++◌, length, map, set, replicate, Option, Some, None, refl}
+use Rattle.std.proofs.Common.{◌≡◌, inl, inr, ℕ, zero, suc, ◌<◌, ◌≤◌, ◌+◌, ◌^◌, Bool, true, false, true≢false}
+use Rattle.std.proofs.Common.{nat_lt, cond, List, [], ◌∷◌, length, map, set, replicate, Option, Some, None, refl}
 use Rattle.std.proofs.Common.{sym, ap, subst, ◌∙◌, arith, length-set}
 use Rattle.std.proofs.lemmas.Bool.{ltb-true, lt-ltb, ltb-false}
+use Rattle.std.proofs.lemmas.Option.{none-some, same_Some}
 use Rattle.std.specs.Bool.{MatchBool}
 use Rattle.std.specs.Option.{IsSome}
 use Rattle.fore_base.specs.Lists.{IsIn, Every, sum_of}
@@ -12,7 +13,8 @@ use Rattle.ta_core.specs.declared.tree.Tree.{Tree, out-Tree, fold-roll-Tree, fol
 use Rattle.ta_core.specs.Language.{RunOf, run, RunEach, run_none, run_more, nodes, nodes_step}
 use Rattle.ta_core.specs.inner.Sizes.{size_at, capped, plus, total, rule_size, is_less, IsSettled, HasTreeOf, AreReal}
 use Rattle.ta_core.specs.inner.Sizes.{Improves, size_sum, IsLeastRule, number, sum_at}
-use Rattle.fore_base.proofs.ListLemmas.{every_in, every_push}
+use Rattle.fore_base.proofs.ListLemmas.{every_in}
+use Rattle.ta_core.proofs.Rounding.{copies_or, set_or}
 use Rattle.ta_core.proofs.Runs.{tree_of, run_tree}
 
 pub nodes_out : (t : Tree) → nodes t ≡ sum_of (map nodes (out-Tree t).children) + 1
@@ -43,17 +45,11 @@ total_sum sizes (q ∷ qs) n a (b, m, e, r, d) l =
     ap (λ (o : Option ℕ). total sizes (plus (Some a) o) qs) e ∙ ap (λ (o : Option ℕ). total sizes o qs) c ∙ t
     ∙ ap Some s
 
-pub none_some : {X : Type 0} (x : X) → None ≡ Some x → ⊥
-none_some x h = cc
-
-pub some_same : (m n : ℕ) → Some m ≡ Some n → m ≡ n
-some_same m n h = cc
-
 module _ (sizes : List (Option ℕ)) where
   -- a total is a sum of sizes, and 64 bits count it
   pub sum_total : (qs : List ℕ) (n a : ℕ) → a < 2 ^ 64 → total sizes (Some a) qs ≡ Some n → (m : ℕ) × Sums sizes qs m
       × (n ≡ a + m) × (n < 2 ^ 64)
-  sum_total [] n a l h = let e = some_same a n h in (0, refl, omega (arith, e), omega (arith, e))
+  sum_total [] n a l h = let e = same_Some a n h in (0, refl, omega (arith, e), omega (arith, e))
   sum_total (q ∷ qs) n a l h = there (size_at sizes q) refl h (sum_total qs n)
     where
       fits : (b : ℕ) → size_at sizes q ≡ Some b → (c : Bool) → nat_lt (a + b) (2 ^ 64) ≡ c
@@ -62,12 +58,12 @@ module _ (sizes : List (Option ℕ)) where
           × (n < 2 ^ 64)) → (m : ℕ) × Sums sizes (q ∷ qs) m × (n ≡ a + m) × (n < 2 ^ 64)
       fits b e true c g k = let w = k (a + b) (ltb-true (a + b) (2 ^ 64) c) g in let d = w.2 in
           (b + w.0, (b, w.0, e, w.1, refl), omega (arith, d), w.3)
-      fits b e false c g k = absurd (none_some n (sym (total_none sizes qs) ∙ g))
+      fits b e false c g k = absurd (none-some n (sym (total_none sizes qs) ∙ g))
 
       there : (o : Option ℕ) → size_at sizes q ≡ o → total sizes (plus (Some a) o) qs ≡ Some n
           → ((x : ℕ) → x < 2 ^ 64 → total sizes (Some x) qs ≡ Some n → (m : ℕ) × Sums sizes qs m × (n ≡ x + m)
           × (n < 2 ^ 64)) → (m : ℕ) × Sums sizes (q ∷ qs) m × (n ≡ a + m) × (n < 2 ^ 64)
-      there None e g k = absurd (none_some n (sym (total_none sizes qs) ∙ g))
+      there None e g k = absurd (none-some n (sym (total_none sizes qs) ∙ g))
       there (Some b) e g k = fits b e (nat_lt (a + b) (2 ^ 64)) refl g k
 
   pub sum_at_sums : (qs : List ℕ) (n : ℕ) → Sums sizes qs n → sum_at sizes qs ≡ n
@@ -103,29 +99,15 @@ module _ (rules : List Rule) (sizes : List (Option ℕ)) where
       let x = ts.2 in let y = w.2 in let z = nodes_tree r.symbol ts.0 in
       (tree_of r.symbol ts.0, run_tree rules r ts.0 i ts.1, omega (arith, x, y, z), w.3)
 
--- what a table says after a write
-size_new : (sizes : List (Option ℕ)) (i q : ℕ) (o : Option ℕ) → ((q ≡ i) × (size_at (set sizes i o) q ≡ o))
-    ⊎ (size_at (set sizes i o) q ≡ size_at sizes q)
-size_new [] i q o = inr refl
-size_new (x ∷ xs) zero zero o = inl (refl, refl)
-size_new (x ∷ xs) zero (suc q) o = inr refl
-size_new (x ∷ xs) (suc i) zero o = inr refl
-size_new (x ∷ xs) (suc i) (suc q) o = elim (size_new xs i q o) [ inl h ↦ inl (ap suc h.0, h.1) | inr h ↦ inr h ]
-
 pub real_set : (rules : List Rule) (sizes : List (Option ℕ)) (r : Rule) → IsIn r rules → AreReal rules sizes
     → AreReal rules (set sizes r.state (rule_size sizes r))
-real_set rules sizes r i real q s h = elim (size_new sizes r.state q (rule_size sizes r)) [
+real_set rules sizes r i real q s h = elim (set_or sizes r.state q (rule_size sizes r) None) [
   | inl n ↦ subst (λ (p : ℕ). HasTreeOf rules p s) (sym n.0) (rule_real rules sizes real r s i (sym n.1 ∙ h))
   | inr o ↦ real q s (sym o ∙ h)
 ]
 
 pub none_real : (rules : List Rule) (n : ℕ) → AreReal rules (replicate n None)
-none_real rules n q s h = absurd (none_some s (sym (none_at n q) ∙ h))
-  where
-    none_at : (n q : ℕ) → size_at (replicate n None) q ≡ None
-    none_at zero q = refl
-    none_at (suc n) zero = refl
-    none_at (suc n) (suc q) = none_at n q
+none_real rules n q s h = absurd (none-some s (sym (copies_or n q None) ∙ h))
 
 -- a smaller size is one
 pub less_some : (o p : Option ℕ) → is_less o p ≡ true → (s : ℕ) × (o ≡ Some s)
@@ -140,40 +122,26 @@ size_sum_falls (Some o ∷ xs) zero s l k h = let m = ltb-true s o h in omega (a
 size_sum_falls (None ∷ xs) (suc i) s l k h = let w = size_sum_falls xs i s (omega arith) k h in omega (arith, w)
 size_sum_falls (Some o ∷ xs) (suc i) s l k h = let w = size_sum_falls xs i s (omega arith) k h in omega (arith, w)
 
-module _ (rules : List Rule) (r : Rule) (start now new : List (Option ℕ)) where
-  -- the rule at hand gives a smaller size
-  pub rule_betters : (was : Bool) (done : List Rule) → IsIn r rules → r.state < length now
-      → MatchBool was (size_sum now < size_sum start) ((now ≡ start) × Every (IsSettled start) done)
-      → Improves r now new true → (length new ≡ length now) × (AreReal rules now → AreReal rules new)
-      × (size_sum new < size_sum start)
-  rule_betters was done i low before better = (
-    ap length better.1 ∙ length-set now r.state (rule_size now r),
-    λ real. subst (AreReal rules) (sym better.1) (real_set rules now r i real),
-    (let o = less_some (rule_size now r) (size_at now r.state) better.0 in
-        let w = sum_total now r.children o.0 1 (omega arith) o.1 in
-        let f = size_sum_falls now r.state o.0 low w.3
-        (subst (λ (x : Option ℕ). is_less x (size_at now r.state) ≡ true) o.1 better.0) in
-        let e = ap size_sum (better.1 ∙ ap (λ (x : Option ℕ). set now r.state x) o.1) in
-        let l = under was before in
-        omega (arith, f, e, l)),
-  )
-    where
-      under : (was : Bool) → MatchBool was (size_sum now < size_sum start)
-          ((now ≡ start) × Every (IsSettled start) done) → size_sum now ≤ size_sum start
-      under true h = omega arith
-      under false h = let e = ap size_sum h.0 in omega (arith, e)
-
-  -- it gives none
-  pub rule_keeps : (was : Bool) (done : List Rule)
-      → MatchBool was (size_sum now < size_sum start) ((now ≡ start) × Every (IsSettled start) done)
-      → Improves r now new false
-      → MatchBool was (size_sum new < size_sum start) ((new ≡ start) × Every (IsSettled start) (done ++ r ∷ []))
-  rule_keeps true done before kept = subst (λ (m : List (Option ℕ)). size_sum m < size_sum start) (sym kept.0) before
-  rule_keeps false done before kept = (
-    kept.0 ∙ before.0,
-    every_push (IsSettled start) done r before.1
-        (subst (λ (m : List (Option ℕ)). IsSettled m r) before.0 kept.1),
-  )
+-- a rule that is taken gives its state a smaller size, or gives none
+pub rule_taken : (rules : List Rule) (n : ℕ) (r : Rule) (now new : List (Option ℕ)) (better : Bool)
+    → IsIn r rules × (r.state < n) → (length now ≡ n) × AreReal rules now → Improves r now new better
+    → ((length new ≡ n) × AreReal rules new)
+    × MatchBool better (size_sum new < size_sum now) ((new ≡ now) × IsSettled now r)
+rule_taken rules n r now new true given kept taken =
+    let k = kept.0 in let low = given.1 in
+    let o = less_some (rule_size now r) (size_at now r.state) taken.0 in
+    let w = sum_total now r.children o.0 1 (omega arith) o.1 in
+    let f = size_sum_falls now r.state o.0 (omega (arith, k, low)) w.3
+    (subst (λ (x : Option ℕ). is_less x (size_at now r.state) ≡ true) o.1 taken.0) in
+    let e = ap size_sum (taken.1 ∙ ap (λ (x : Option ℕ). set now r.state x) o.1) in (
+      (
+        ap length taken.1 ∙ length-set now r.state (rule_size now r) ∙ kept.0,
+        subst (AreReal rules) (sym taken.1) (real_set rules now r given.0 kept.1),
+      ),
+      omega (arith, f, e),
+    )
+rule_taken rules n r now new false given kept taken =
+    ((ap length taken.0 ∙ kept.0, subst (AreReal rules) (sym taken.0) kept.1), taken)
 
 at_most : (m : ℕ) (o : Option ℕ) → is_less (Some m) o ≡ false → (s : ℕ) × (o ≡ Some s) × (s ≤ m)
 at_most m None h = absurd (true≢false h)
@@ -222,6 +190,6 @@ module _ (rules : List Rule) (sizes : List (Option ℕ)) (settled : Every (IsSet
           subst (λ (o : Option ℕ). is_less o (size_at sizes r.state) ≡ false) z f in
           let m = at_most (1 + w.0) (size_at sizes r.state) g in
           let c = m.2 in
-          let x : m.0 ≡ s = some_same m.0 s (sym m.1 ∙ ap (size_at sizes) e ∙ h) in
+          let x : m.0 ≡ s = same_Some m.0 s (sym m.1 ∙ ap (size_at sizes) e ∙ h) in
           let v : 1 + w.0 ≡ s = omega (arith, b, c, d, n, x) in
           (r, i, (e, z ∙ ap Some v ∙ sym h))

@@ -2,6 +2,7 @@
 use Rattle.std.proofs.Common.{◌≡◌, ◌⊎◌, inl, inr, ℕ, ◌<◌, ◌≤◌, ◌+◌, ◌*◌, ◌^◌, Bool, true, false, true≢false, nat_lt}
 use Rattle.std.proofs.Common.{List, [], ◌∷◌, ◌++◌, map, Option, Some, None, refl, sym, ap, subst, ◌∙◌, arith}
 use Rattle.std.proofs.lemmas.Bool.{ltb-true, ltb-false, cases_lt}
+use Rattle.std.proofs.lemmas.Option.{same_Some}
 use Rattle.std.specs.Option.{IsSome}
 use Rattle.fore_base.specs.Lists.{IsIn, Every, Paired, sum_of}
 use Rattle.ta_core.specs.declared.auto.Rule.{Rule}
@@ -11,7 +12,7 @@ use Rattle.ta_core.specs.Language.{RunOf, RunEach, run_none, run_more, InLanguag
 use Rattle.ta_core.specs.inner.Sizes.{size_at, is_less, AreLeast, IsLeastRule, IsTreeAt, IsBest, number, sum_at}
 use Rattle.fore_base.proofs.ListLemmas.{in_left, in_right, every_in, every_push}
 use Rattle.ta_core.proofs.Runs.{tree_of, run_tree}
-use Rattle.ta_core.proofs.Sizing.{nodes_tree, Sums, some_same, less_some, sum_total, sum_at_sums, sums_there, lower}
+use Rattle.ta_core.proofs.Sizing.{nodes_tree, Sums, less_some, sum_total, sum_at_sums, sums_there, lower}
 use Rattle.ta_core.proofs.Sizing.{has_rule}
 
 not_less : (m n : ℕ) → n ≤ m → nat_lt m n ≡ false
@@ -101,7 +102,7 @@ module _ (rules : List Rule) (sizes : List (Option ℕ)) where
   sums_of [] (t ∷ ts) n p h = absurd p
   sums_of (q ∷ qs) [] n p h = absurd p
   sums_of (q ∷ qs) (t ∷ ts) n p (a, m, e, r, d) =
-      let x = some_same a (nodes t) (sym e ∙ p.0.1) in
+      let x = same_Some a (nodes t) (sym e ∙ p.0.1) in
       let y = sums_of qs ts m p.1 r in
       omega (arith, x, y, d)
 

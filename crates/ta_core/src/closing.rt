@@ -1,12 +1,12 @@
 // The states that are reached by arcs, each of which leads from several states to one.
 
-ghost use Rattle.std.specs.Prelude.{◌≡◌, ◌<◌, true, false, length, IfOk, MatchBool};
+ghost use Rattle.std.specs.Prelude.{◌<◌, IfOk};
 ghost use Rattle.fore_base.specs.Lists.{Every};
 ghost use Rattle.fore_base.specs.Marks.{MarksOf};
-ghost use Rattle.ta_core.specs.inner.Closing.{Reached, AreReached, IsTaken, Takes, gaps};
+ghost use Rattle.ta_core.specs.inner.Closing.{Reached, Takes};
 
 use crate::arc::Arc;
-use crate::rounds::{Rounds, settle};
+use crate::rounds::{Taker, take_all};
 use fore_base::list::List;
 use fore_base::marks::{are_all_marked, is_marked, mark, unmarked};
 use fore_base::memory::Mem;
@@ -19,7 +19,7 @@ pub fn reached(alloc: Global, states: u32, arcs: &[Arc]) -> Mem<List<bool>>
 {
     let mut marks = unmarked(alloc, states as usize)?;
     let marking = Marking { states, arcs };
-    settle(&marking, &mut marks)?;
+    take_all(&marking, arcs, &mut marks)?;
     Ok(marks)
 }
 
@@ -30,38 +30,22 @@ struct Marking<'a> {
     arcs: &'a [Arc],
 }
 
-impl Rounds<List<bool>> for Marking<'_> {
+impl Taker<List<bool>, Arc> for Marking<'_> {
     ghost use Rattle.std.specs.Prelude.{◌≡◌, ◌<◌, length};
-    ghost use Rattle.fore_base.specs.Lists.{Every};
+    ghost use Rattle.fore_base.specs.Lists.{IsIn};
     ghost use Rattle.ta_core.specs.inner.Closing.{AreReached, IsTaken, gaps};
 
-    ghost keeps = { λ m marks. Every (λ s. s.to < m.states) m.arcs.now × (length marks ≡ m.states)
-        × AreReached m.arcs.now marks };
+    ghost accepts = { λ m s. IsIn s m.arcs.now × (s.to < m.states) };
 
-    ghost is_settled = { λ m marks. Every (IsTaken marks) m.arcs.now };
+    ghost keeps = { λ m marks. (length marks ≡ m.states) × AreReached m.arcs.now marks };
+
+    ghost is_taken = { λ m marks s. IsTaken marks s };
 
     ghost left = { λ m marks. gaps marks };
 
-    fn round(&self, marks: &mut List<bool>) -> Mem<bool> {
-        Ok(take_all(marks, self.arcs))
+    fn take(&self, marks: &mut List<bool>, arc: &Arc) -> Mem<bool> {
+        Ok(take(marks, arc))
     }
-}
-
-/// Takes each arc once, and says whether a mark was added.
-fn take_all(marks: &mut List<bool>, arcs: &[Arc]) -> bool
-    requires { Every (λ s. s.to < length marks.old) arcs.now }
-    ensures long { length marks.new ≡ length marks.old }
-    ensures only { AreReached arcs.now marks.old → AreReached arcs.now marks.new }
-    ensures added { MatchBool result (gaps marks.new < gaps marks.old)
-        ((marks.new ≡ marks.old) × Every (IsTaken marks.old) arcs.now) }
-{
-    let mut added = false;
-    for arc in arcs {
-        if take(marks, arc) {
-            added = true;
-        }
-    }
-    added
 }
 
 /// Marks where the arc leads, if it has no mark and all the states before it have, and says whether it did.

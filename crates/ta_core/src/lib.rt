@@ -40,7 +40,7 @@ pub use auto::{Auto, Rule};
 pub use inhabited::is_empty;
 pub use joining::{rename, room, union};
 pub use renumbering::renumber;
-pub use rounds::{Rounds, settle};
+pub use rounds::{Rounds, Taker, settle, take_all};
 pub use smallest::smallest_tree;
 pub use symbol::{Slot, Symbol};
 pub use tree::Tree;

@@ -1,12 +1,11 @@
 // For each state the least number of nodes of a tree that has a run to it, as far as 64 bits count.
 
-ghost use Rattle.std.specs.Prelude.{◌≡◌, ◌<◌, length, Some, None, replicate, IfOk, MatchBool};
+ghost use Rattle.std.specs.Prelude.{◌≡◌, ◌<◌, length, None, replicate, IfOk};
 ghost use Rattle.fore_base.specs.Lists.{Every};
-ghost use Rattle.ta_core.specs.inner.Sizes.{size_at, plus, rule_size, is_less, IsSettled, AreReal, AreLeast, Improves};
-ghost use Rattle.ta_core.specs.inner.Sizes.{size_sum};
+ghost use Rattle.ta_core.specs.inner.Sizes.{size_at, plus, rule_size, is_less, AreLeast, Improves};
 
 use crate::auto::Rule;
-use crate::rounds::{Rounds, settle};
+use crate::rounds::{Taker, take_all};
 use fore_base::list::List;
 use fore_base::memory::Mem;
 use std::alloc::Global;
@@ -18,7 +17,7 @@ pub fn least_sizes(alloc: Global, states: u32, rules: &[Rule]) -> Mem<List<Optio
 {
     let mut sizes = no_sizes(alloc, states)?;
     let improving = Improving { states, rules };
-    settle(&improving, &mut sizes)?;
+    take_all(&improving, rules, &mut sizes)?;
     Ok(sizes)
 }
 
@@ -29,20 +28,21 @@ struct Improving<'a> {
     rules: &'a [Rule],
 }
 
-impl Rounds<List<Option<u64>>> for Improving<'_> {
+impl Taker<List<Option<u64>>, Rule> for Improving<'_> {
     ghost use Rattle.std.specs.Prelude.{◌≡◌, ◌<◌, length};
-    ghost use Rattle.fore_base.specs.Lists.{Every};
+    ghost use Rattle.fore_base.specs.Lists.{IsIn};
     ghost use Rattle.ta_core.specs.inner.Sizes.{AreReal, IsSettled, size_sum};
 
-    ghost keeps = { λ i sizes. Every (λ r. r.state < i.states) i.rules.now
-        × (length sizes ≡ i.states) × AreReal i.rules.now sizes };
+    ghost accepts = { λ i r. IsIn r i.rules.now × (r.state < i.states) };
 
-    ghost is_settled = { λ i sizes. Every (IsSettled sizes) i.rules.now };
+    ghost keeps = { λ i sizes. (length sizes ≡ i.states) × AreReal i.rules.now sizes };
+
+    ghost is_taken = { λ i sizes r. IsSettled sizes r };
 
     ghost left = { λ i sizes. size_sum sizes };
 
-    fn round(&self, sizes: &mut List<Option<u64>>) -> Mem<bool> {
-        Ok(improve_all(sizes, self.rules))
+    fn take(&self, sizes: &mut List<Option<u64>>, rule: &Rule) -> Mem<bool> {
+        Ok(improve(sizes, rule))
     }
 }
 
@@ -51,23 +51,6 @@ fn no_sizes(alloc: Global, states: u32) -> Mem<List<Option<u64>>>
 {
     let sizes = vec![in alloc; None; states as usize]?;
     Ok(List::from_vec(sizes))
-}
-
-/// Takes each rule once, and says whether one gave a smaller tree.
-fn improve_all(sizes: &mut List<Option<u64>>, rules: &[Rule]) -> bool
-    requires { Every (λ r. r.state < length sizes.old) rules.now }
-    ensures long { length sizes.new ≡ length sizes.old }
-    ensures real { AreReal rules.now sizes.old → AreReal rules.now sizes.new }
-    ensures better { MatchBool result (size_sum sizes.new < size_sum sizes.old)
-        ((sizes.new ≡ sizes.old) × Every (IsSettled sizes.old) rules.now) }
-{
-    let mut better = false;
-    for rule in rules {
-        if improve(sizes, rule) {
-            better = true;
-        }
-    }
-    better
 }
 
 /// Writes the size of the rule's least tree at its state, if it is smaller, and says whether it is.
