@@ -14,7 +14,7 @@ use Rattle.ta_sim.proofs.Simulated.{simulated_runs}
 use Rattle.ta_reduce.specs.inner.Determinism.{HasSameLeft, IsApart, IsDeterministic}
 use Rattle.ta_reduce.specs.inner.Reduction.{HasNoneNeedless}
 use Rattle.ta_reduce.proofs.Sublists.{later_at}
-use Rattle.ta_reduce.proofs.Trimmed.{part_tree}
+use Rattle.ta_core.proofs.Runs.{passed_tree}
 
 module _ (rules : List Rule) (deterministic : IsDeterministic rules) where
   -- a left side has one place
@@ -49,7 +49,7 @@ module _ (a : Automaton) (proper : IsRanked a) (trim : IsTrim a) (deterministic 
   -- a state is simulated by itself alone
   simulated_one : (p q : ℕ) → p < a.states → IsSimulated a.rules p q → p ≡ q
   simulated_one p q l h =
-      let t = part_tree a.rules (trim p l).3 in
+      let t = passed_tree (trim p l).3 in
       one_state a.rules deterministic t.1 (simulated_runs a.rules p q t.0 h t.1)
 
   simulated_lists : (ps qs : List ℕ) → Every (λ p. p < a.states) ps → Paired (IsSimulated a.rules) ps qs → ps ≡ qs

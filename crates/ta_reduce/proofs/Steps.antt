@@ -7,6 +7,7 @@ use Rattle.ta_core.specs.Language.{HasSameLanguage, HasTree, IsTrim}
 use Rattle.ta_core.specs.Renumbered.{StandsFor, image}
 use Rattle.ta_core.specs.Simulations.{AutoReduced}
 use Rattle.ta_core.specs.declared.auto.Rule.{Rule}
+use Rattle.ta_core.proofs.Runs.{passed_tree}
 use Rattle.ta_sim.specs.Relations.{Table}
 use Rattle.ta_classes.specs.Classes.{AreClasses}
 use Rattle.ta_reduce.specs.inner.Reduction.{AreMutual, HasRootsOnce, IsAmong, IsGreatest, IsLeft, IsReduction, IsTight}
@@ -15,7 +16,7 @@ use Rattle.ta_reduce.specs.inner.Thinned.{AreNeeded}
 use Rattle.ta_reduce.proofs.Fewer.{left_preserves, left_tight}
 use Rattle.ta_reduce.proofs.Joined.{joined_apart, joined_greatest, joined_preserves, joined_ranked}
 use Rattle.ta_reduce.proofs.Leads.{led_from, top_from}
-use Rattle.ta_reduce.proofs.Trimmed.{part_tree, trimmed_led, trimmed_reduced, trimmed_states}
+use Rattle.ta_reduce.proofs.Trimmed.{trimmed_led, trimmed_reduced, trimmed_states}
 
 -- what is preserved twice is preserved
 pub preserved_through : (a b c : Automaton) → Preserves a b → Preserves b c → Preserves a c
@@ -38,7 +39,7 @@ trimmed_preserves a b r h s t p =
 tall_kept : (a b : Automaton) → Preserves a b → IsTrim a → (q : ℕ) → q < b.states → HasTree b.rules q
 tall_kept a b h trim q l =
     let w = h.states q l in
-    let t = part_tree a.rules (trim w.0 w.1).3 in
+    let t = passed_tree (trim w.0 w.1).3 in
     (t.0, (w.2 t.0).1 t.1)
 
 -- what is tight, and then trimmed, is reduced

@@ -8,12 +8,12 @@ use Rattle.fore_base.proofs.ListLemmas.{every_in, in_every, in_from_place, in_ma
 use Rattle.ta_core.specs.declared.auto.Rule.{Rule}
 use Rattle.ta_core.specs.declared.tree.Tree.{Tree, out-Tree}
 use Rattle.ta_core.specs.Auto.{Automaton, IsRanked, IsRankedRule}
-use Rattle.ta_core.specs.Language.{RunOf, RunEach, run, run_none, run_more, PassesBy, at_top, below, OnePasses}
-use Rattle.ta_core.specs.Language.{this_one, later_one, IsTrim, HasTree}
+use Rattle.ta_core.specs.Language.{RunOf, RunEach, run, run_none, run_more}
+use Rattle.ta_core.specs.Language.{IsTrim, HasTree}
 use Rattle.ta_core.specs.Renumbered.{renumbered, StandsFor}
 use Rattle.ta_core.specs.Simulations.{IsSimulated, IsDownward, AutoReduced}
 use Rattle.ta_core.specs.States.{KeepsStates}
-use Rattle.ta_core.proofs.Runs.{along_each}
+use Rattle.ta_core.proofs.Runs.{along_each, passed_tree}
 use Rattle.ta_core.proofs.Shifting.{in_sub}
 use Rattle.ta_sim.proofs.Simulated.{simulated_runs, some_below, below_from, below_to}
 use Rattle.ta_reduce.specs.inner.Leading.{KeepsLead}
@@ -21,16 +21,6 @@ use Rattle.ta_reduce.specs.inner.Reduction.{IsTight}
 use Rattle.ta_reduce.proofs.Sublists.{sub_places}
 
 module _ (rules : List Rule) where
-  mutual
-    -- a state that takes part has a tree
-    pub part_tree : {q p : ℕ} {t : Tree} → PassesBy rules q p t → HasTree rules q
-    part_tree {t = t} (at_top e r) = (t, subst (λ (x : ℕ). RunOf rules x t) e r)
-    part_tree (below r i e s o) = one_tree o
-
-    one_tree : {q : ℕ} {ps : List ℕ} {ts : List Tree} → OnePasses rules q ps ts → HasTree rules q
-    one_tree (this_one p rs) = part_tree p
-    one_tree (later_one r o) = one_tree o
-
   -- the rule by which the tree has its run
   first_rule : {q : ℕ} {t : Tree} → RunOf rules q t → (r : Rule) × IsIn r rules × (r.state ≡ q)
       × RunEach rules r.children (out-Tree t).children
@@ -53,7 +43,7 @@ module _ (a b : Automaton) (s : StandsFor a b) (trim : IsTrim b) (proper : IsRan
   trees_each : (qs : List ℕ) → Every (λ q. q < b.states) qs → (ts : List Tree) × RunEach b.rules qs ts
   trees_each [] l = ([], run_none)
   trees_each (q ∷ qs) l =
-      let t = part_tree b.rules (trim q l.0).3 in
+      let t = passed_tree (trim q l.0).3 in
       let ts = trees_each qs l.1 in
       (t.0 ∷ ts.0, run_more t.1 ts.1)
 
@@ -118,7 +108,7 @@ module _ (a b : Automaton) (s : StandsFor a b) (trim : IsTrim b) (proper : IsRan
   -- each state has the trees of the one that it stands for
   pub trimmed_states : IsRanked a → KeepsStates a b
   trimmed_states ranked p l =
-      let t = part_tree b.rules (trim p l).3 in
+      let t = passed_tree (trim p l).3 in
       let r = first_rule a.rules ((s.runs p t.0 l).0 t.1) in (
         s.of p,
         subst (λ (x : ℕ). x < a.states) r.2 (every_in (IsRankedRule a.states) a.rules r.0 ranked.1 r.1).0,
@@ -222,7 +212,7 @@ module _ (a b : Automaton) (s : StandsFor a b) (trim : IsTrim b) (proper : IsRan
 
     of_low : (p : ℕ) → p < b.states → s.of p < a.states
     of_low p l =
-        let t = part_tree b.rules (trim p l).3 in
+        let t = passed_tree (trim p l).3 in
         let r = first_rule a.rules ((s.runs p t.0 l).0 t.1) in
         subst (λ (x : ℕ). x < a.states) r.2 (every_in (IsRankedRule a.states) a.rules r.0 ranked.1 r.1).0
 
