@@ -1,6 +1,6 @@
 -- What is reached by parts, for one choice of signatures and for another.
 use Rattle.std.proofs.Common.{◌≡◌, ◌≢◌, ◌⊎◌, inl, inr, ℕ, zero, suc, ◌<◌, List, [], ◌∷◌, map, length, refl, sym}
-use Rattle.std.proofs.Common.{ap, subst, ◌∙◌, arith, Some, slice_get, set, Bool, true, false, not, true≢false}
+use Rattle.std.proofs.Common.{ap, subst, ◌∙◌, arith, Some, slice_get, set}
 use Rattle.std.proofs.lemmas.List.{length-map}
 use Rattle.std.proofs.lemmas.Option.{none-some, same_Some, slice_get_within}
 use Rattle.fore_base.specs.Lists.{IsIn, Every, Paired}
@@ -155,11 +155,3 @@ pub forced_met : (ps : List Part) (i r : ℕ) → AreFit ps → Forced (map merg
 forced_met ps i r f g =
     let w = some_downs (length (map merged ps)) (map merged ps) (are_fit ps f) in
     merged_met (length ps) ps w.0 f w.1 i r (g w.0 w.1)
-
-pub not_true : (b : Bool) → not b ≡ true → b ≡ false
-not_true true e = absurd (true≢false (sym e))
-not_true false e = refl
-
-pub not_false : (b : Bool) → not b ≡ false → b ≡ true
-not_false true e = refl
-not_false false e = absurd (true≢false e)

@@ -4,5 +4,5 @@ mod Known
 mod Signed
 mod Numbers
 mod Decided
-mod TreeLaws
+pub mod TreeLaws
 mod Rows

@@ -1,4 +1,4 @@
-use Rattle.fa_reach.proofs.Going.{not_true, not_false}
+use Rattle.std.proofs.lemmas.Bool.{not-false, not-true}
 use Rattle.fa_reach.proofs.Decided.{all_reach, some_missed}
 use Rattle.fa_reach.proofs.deciding.reach_all.Goals as goal
 
@@ -13,10 +13,10 @@ may_miss_some-requires-clause-from c = rw (c.as_slice.ensures, c.in_ok-all.ensur
 
 pub returns-clause-yes : goal.returns-clause-yes
 returns-clause-yes c = λ e.
-    let h = rw (c.as_slice.ensures) at c.in_ok-misses.ensures.no (not_true c.in_ok-misses.misses e) in
+    let h = rw (c.as_slice.ensures) at c.in_ok-misses.ensures.no (not-true c.in_ok-misses.misses e) in
     all_reach c.args.lists.now c.in_ok-all.all c.in_ok-all.ensures.parted c.args.from h
 
 pub returns-clause-no : goal.returns-clause-no
 returns-clause-no c = λ e.
-    let h = rw (c.as_slice.ensures) at c.in_ok-misses.ensures.yes (not_false c.in_ok-misses.misses e) in
+    let h = rw (c.as_slice.ensures) at c.in_ok-misses.ensures.yes (not-false c.in_ok-misses.misses e) in
     some_missed c.args.lists.now c.in_ok-all.all c.in_ok-all.ensures.parted c.in_ok-all.ensures.fit c.args.from h

@@ -1,4 +1,5 @@
-use Rattle.fa_reach.proofs.Going.{are_fit, forced_met, missed_barred, not_true, not_false}
+use Rattle.std.proofs.lemmas.Bool.{not-false, not-true}
+use Rattle.fa_reach.proofs.Going.{are_fit, forced_met, missed_barred}
 use Rattle.fa_reach.proofs.merging.can_reach.Goals as goal
 
 pub can_miss-requires-clause-fit : goal.can_miss-requires-clause-fit
@@ -8,11 +9,11 @@ can_miss-requires-clause-fit c = rw (c.as_slice.ensures, c.in_ok-all.ensures)
 pub returns-clause-yes : goal.returns-clause-yes
 returns-clause-yes c = λ e.
     let h = rw (c.as_slice.ensures, c.in_ok-all.ensures) at
-    c.in_ok-misses.ensures.no (not_true c.in_ok-misses.misses e) in
+    c.in_ok-misses.ensures.no (not-true c.in_ok-misses.misses e) in
     forced_met c.args.parts.now c.args.from c.args.to c.requires.fit h
 
 pub returns-clause-no : goal.returns-clause-no
 returns-clause-no c = λ e.
     let h = rw (c.as_slice.ensures, c.in_ok-all.ensures) at
-    c.in_ok-misses.ensures.yes (not_false c.in_ok-misses.misses e) in
+    c.in_ok-misses.ensures.yes (not-false c.in_ok-misses.misses e) in
     missed_barred c.args.parts.now c.args.from c.args.to h
