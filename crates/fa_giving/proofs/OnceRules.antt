@@ -36,6 +36,7 @@ use Rattle.fa_filling.proofs.SpotRules.{
   some_trees,
   with_edge,
 }
+use Rattle.fa_filling.proofs.Fillings.{some_choice}
 use Rattle.fa_filling.proofs.SpotRules.{tree_spot}
 use Rattle.fa_giving.specs.inner.Shaped.{IsOnceSpot, IsOnceRoot}
 use Rattle.fa_giving.specs.inner.Totals.{ForAll}
@@ -68,10 +69,6 @@ pub choice_put : (autos : List Automaton) (r : ℕ) (a : Automaton) (v : Tree) �
 choice_put [] r a v e f l = absurd (none-some a e)
 choice_put (x ∷ autos) zero a v e f l = let k = some_choice autos f.1 in
     (v ∷ k.0, (subst (λ (y : Automaton). InLanguage y v) (sym (same_Some x a e)) l, k.1), refl)
-  where
-    some_choice : (autos : List Automaton) → Every HasSome autos → (ts : List Tree) × Choice autos ts
-    some_choice [] f = ([], tt)
-    some_choice (x ∷ xs) f = let r = some_choice xs f.1 in (f.0.0 ∷ r.0, (f.0.1, r.1))
 choice_put (x ∷ autos) (suc r) a v e f l = let k = choice_put autos r a v e f.1 l in
     (f.0.0 ∷ k.0, (f.0.1, k.1), k.2)
 

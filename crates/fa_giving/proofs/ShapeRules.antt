@@ -45,12 +45,9 @@ use Rattle.fa_filling.proofs.FilledRules.{all_symbols, symbols_with, is_dangling
 use Rattle.fa_filling.proofs.Fillings.{some_choice}
 use Rattle.fa_giving.specs.inner.Shaped.{IsShapedSpot, IsShapedRoot, AreTopStructs}
 use Rattle.fa_giving.specs.inner.Totals.{ForAll}
+use Rattle.fa_box_rules.proofs.SoundBoxes.{top_same}
 use Rattle.fa_giving.proofs.OnceRules.{each_or}
-use Rattle.fa_giving.proofs.RootFields.{cell_same}
 use Rattle.fa_giving.proofs.Sums.{state_trees}
-
-topped_once : (t : Tree) (s u : ℕ) → IsTopped s t → IsTopped u t → s ≡ u
-topped_once t s u h k = (cell_same s u h.0 k.0 h.1 k.1 (sym h.2 ∙ k.2)).0
 
 -- TREES AT PLACES
 
@@ -78,7 +75,7 @@ hold_set [] (x ∷ topss) ts r s p c h k tl e = absurd p
 hold_set (a ∷ autos) [] ts r s p c h k tl e = absurd p
 hold_set (a ∷ autos) (x ∷ topss) [] r s p c h k tl e = absurd c
 hold_set (a ∷ autos) (x ∷ topss) (t ∷ ts) zero s p c h zero tl e =
-    (t, refl, λ u g. subst (λ (l : List ℕ). IsIn u l) (same_Some (s ∷ []) tl e) (inl (topped_once t u s g (h t refl))))
+    (t, refl, λ u g. subst (λ (l : List ℕ). IsIn u l) (same_Some (s ∷ []) tl e) (inl (top_same t u s g (h t refl))))
 hold_set (a ∷ autos) (x ∷ topss) (t ∷ ts) zero s p c h (suc k) tl e = tops_hold autos topss ts p.1 c.1 k tl e
 hold_set (a ∷ autos) (x ∷ topss) (t ∷ ts) (suc r) s p c h zero tl e =
     (t, refl, λ u g. subst (λ (l : List ℕ). IsIn u l) (same_Some x tl e) (p.0.each t u c.0 g))

@@ -9,7 +9,6 @@ use Rattle.std.proofs.Common.{
   List,
   [],
   ◌∷◌,
-  ◌++◌,
   length,
   map,
   set,
@@ -22,6 +21,7 @@ use Rattle.std.proofs.Common.{subst, ◌∙◌, arith, length-set}
 use Rattle.std.proofs.lemmas.Bool.{ltb-true, ltb-false, eqb-true, eq-eqb, and_parts, and_from, or_left, or_right}
 use Rattle.std.proofs.lemmas.Bool.{cases_Bool}
 use Rattle.std.proofs.lemmas.Bool.{or_cases, or_parts}
+use Rattle.std.proofs.lemmas.List.{length-replicate}
 use Rattle.std.specs.Bool.{MatchBool}
 use Rattle.fore_base.specs.Lists.{IsIn, Every, Paired, sum_of}
 use Rattle.fore_base.specs.declared.store.Datum.{Datum}
@@ -33,7 +33,8 @@ use Rattle.ta_core.specs.declared.symbol.Slot.TheVariants.{Field, Link, Hook}
 use Rattle.ta_core.specs.declared.symbol.Symbol.{Symbol}
 use Rattle.ta_core.specs.declared.symbol.Symbol.TheVariants.{Null, Uninit, Dangling, Ref, Cell}
 use Rattle.ta_core.specs.declared.tree.Tree.{Tree, Tree-F, out-Tree, out-roll-Tree, fold_out-Tree}
-use Rattle.fore_base.proofs.ListLemmas.{every_in, every_push}
+use Rattle.fore_base.proofs.ListLemmas.{every_in}
+use Rattle.ta_core.proofs.Rounding.{copies_or, set_or}
 use Rattle.ta_core.proofs.Runs.{tree_of}
 use Rattle.fa_core.specs.declared.faces.BoxFace.{BoxFace}
 use Rattle.fa_core.specs.Cells.{edges}
@@ -563,15 +564,6 @@ module _ (bs : List BoxFace) (r f : ℕ) where
 
 -- TABLES
 
--- what a table says after a write
-worth_new : (table : List Worth) (i q : ℕ) (x : Worth) → ((q ≡ i) × (worth_at (set table i x) q ≡ x))
-    ⊎ (worth_at (set table i x) q ≡ worth_at table q)
-worth_new [] i q x = inr refl
-worth_new (y ∷ ys) zero zero x = inl (refl, refl)
-worth_new (y ∷ ys) zero (suc q) x = inr refl
-worth_new (y ∷ ys) (suc i) zero x = inr refl
-worth_new (y ∷ ys) (suc i) (suc q) x = elim (worth_new ys i q x) [ inl h ↦ inl (ap suc h.0, h.1) | inr h ↦ inr h ]
-
 -- what is said anew leaves less to say
 room_falls : (x y : Worth) → y.most ≤ 2 → adds x y ≡ true → room_of (joined x y) < room_of x
 room_falls x y l h = here x.leaf y.leaf x.none y.none (nat_lt x.most y.most) refl h
@@ -621,65 +613,44 @@ rooms_fall (x ∷ xs) (suc i) y l h k = let f = rooms_fall xs i y (omega arith) 
 
 module _ (bs : List BoxFace) (r f : ℕ) (rules : List Rule) where
   pub nothing_real : (n : ℕ) → ((q : ℕ) → q < n → HasTree rules q) → AreReal bs r f rules (replicate n nothing)
-  nothing_real n trees q l = subst (IsReal bs r f (RunOf rules q)) (sym (at n q))
-      (let t = trees q (subst (λ (m : ℕ). q < m) (long n) l) in record {
+  nothing_real n trees q l = subst (IsReal bs r f (RunOf rules q)) (sym (copies_or n q nothing))
+      (let t = trees q (subst (λ (m : ℕ). q < m) (length-replicate n nothing) l) in record {
         low = omega arith;
         most = (t.0, t.1, omega arith);
         leaf = λ e. absurd (true≢false (sym e));
         none = λ e. absurd (true≢false (sym e));
       })
-    where
-      at : (n q : ℕ) → worth_at (replicate n nothing) q ≡ nothing
-      at zero q = refl
-      at (suc n) zero = refl
-      at (suc n) (suc q) = at n q
 
-      long : (n : ℕ) → length (replicate n nothing) ≡ n
-      long zero = refl
-      long (suc n) = ap suc (long n)
-
-  module _ (o : Rule) (start now new : List Worth) (trees : (q : ℕ) → q < length now → HasTree rules q)
-      (i : IsIn o rules) (ranked : IsRankedRule (length now) o) (real : AreReal bs r f rules now) where
-    own : IsReal bs r f (RunOf rules o.state) (rule_worth bs r f now o)
-    own = rule_real bs r f rules (length now) trees now real o i ranked
-
-    pub take_adds : (was : Bool) (done : List Rule)
-        → MatchBool was (rooms now < rooms start) ((now ≡ start) × Every (IsSettled bs r f start) done)
-        → Takes bs r f o now new true
-        → (length new ≡ length now) × AreReal bs r f rules new × (rooms new < rooms start)
-    take_adds was done before taken =
-        let x = joined (worth_at now o.state) (rule_worth bs r f now o) in
-        let k = own in
-        let g = rooms_fall now o.state (rule_worth bs r f now o) ranked.0 k.low taken.0 in
-        let e = ap rooms taken.1 in
-        let l = under was before in (
-          ap length taken.1 ∙ length-set now o.state x,
-          subst (AreReal bs r f rules) (sym taken.1) (λ q j. elim (worth_new now o.state q x) [
+  -- a rule that is taken says something new of its state, or says nothing new
+  pub rule_taken : (n : ℕ) (o : Rule) (now new : List Worth) (added : Bool) → IsIn o rules × IsRankedRule n o
+      → ((q : ℕ) → q < n → HasTree rules q) × (length now ≡ n) × AreReal bs r f rules now
+      → Takes bs r f o now new added
+      → (((q : ℕ) → q < n → HasTree rules q) × (length new ≡ n) × AreReal bs r f rules new)
+      × MatchBool added (rooms new < rooms now) ((new ≡ now) × IsSettled bs r f now o)
+  rule_taken n o now new true given kept taken =
+      let trees : (q : ℕ) → q < length now → HasTree rules q =
+      subst (λ (m : ℕ). (q : ℕ) → q < m → HasTree rules q) (sym kept.1) kept.0 in
+      let ranked : IsRankedRule (length now) o = subst (λ (m : ℕ). IsRankedRule m o) (sym kept.1) given.1 in
+      let x = joined (worth_at now o.state) (rule_worth bs r f now o) in
+      let k = rule_real bs r f rules (length now) trees now kept.2 o given.0 ranked in
+      let g = rooms_fall now o.state (rule_worth bs r f now o) ranked.0 k.low taken.0 in
+      let e = ap rooms taken.1 in (
+        (
+          kept.0,
+          ap length taken.1 ∙ length-set now o.state x ∙ kept.1,
+          subst (AreReal bs r f rules) (sym taken.1) (λ q j. elim (set_or now o.state q x nothing) [
             | inl d ↦ subst (λ (p : ℕ). IsReal bs r f (RunOf rules p) (worth_at (set now o.state x) q)) (sym d.0)
                 (subst (IsReal bs r f (RunOf rules o.state)) (sym d.1)
                 (joined_real bs r f (RunOf rules o.state) (worth_at now o.state) (rule_worth bs r f now o)
-                (real o.state ranked.0) k))
+                (kept.2 o.state ranked.0) k))
             | inr d ↦ subst (IsReal bs r f (RunOf rules q)) (sym d)
-                (real q (subst (λ (m : ℕ). q < m) (length-set now o.state x) j))
+                (kept.2 q (subst (λ (m : ℕ). q < m) (length-set now o.state x) j))
           ]),
-          omega (arith, g, e, l),
-        )
-      where
-        under : (was : Bool) → MatchBool was (rooms now < rooms start)
-            ((now ≡ start) × Every (IsSettled bs r f start) done) → rooms now ≤ rooms start
-        under true h = omega arith
-        under false h = let e = ap rooms h.0 in omega (arith, e)
-
-    pub take_keeps : (was : Bool) (done : List Rule)
-        → MatchBool was (rooms now < rooms start) ((now ≡ start) × Every (IsSettled bs r f start) done)
-        → Takes bs r f o now new false
-        → MatchBool was (rooms new < rooms start) ((new ≡ start) × Every (IsSettled bs r f start) (done ++ o ∷ []))
-    take_keeps true done before kept = subst (λ (m : List Worth). rooms m < rooms start) (sym kept.0) before
-    take_keeps false done before kept = (
-      kept.0 ∙ before.0,
-      every_push (IsSettled bs r f start) done o before.1
-          (subst (λ (m : List Worth). IsSettled bs r f m o) before.0 kept.1),
-    )
+        ),
+        omega (arith, g, e),
+      )
+  rule_taken n o now new false given kept taken =
+      ((kept.0, ap length taken.0 ∙ kept.1, subst (AreReal bs r f rules) (sym taken.0) kept.2), taken)
 
 -- a settled table is right
 pub settled_right : (bs : List BoxFace) (r f : ℕ) (a : Automaton) (table : List Worth) → IsRanked a

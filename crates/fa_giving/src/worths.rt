@@ -1,15 +1,13 @@
 // How often the trees of each state give a field at a root: the greatest number, counted up to 2, and whether one never
 // does. What a state provides doubles with each state below it, so no list of it is made.
 
-ghost use Rattle.std.specs.Prelude.{◌≡◌, ◌<◌, ◌+◌, ℕ, false, length, IfOk, MatchBool};
-ghost use Rattle.fore_base.specs.Lists.{Every};
-ghost use Rattle.ta_core.specs.Auto.{IsRankedRule};
+ghost use Rattle.std.specs.Prelude.{◌≡◌, ◌<◌, ◌+◌, ℕ, false, length, IfOk};
 ghost use Rattle.ta_core.specs.Language.{HasTree};
 ghost use Rattle.fa_core.specs.Rearranged.{often};
 ghost use Rattle.fa_core.specs.Ways.{given_by};
 ghost use Rattle.fa_giving.specs.inner.Worths.{weight, capped, greater, nothing, leaf_worth, worth_at, most_below};
-ghost use Rattle.fa_giving.specs.inner.Worths.{none_below, with_edge, with_edges, rule_worth, joined, adds, IsSettled};
-ghost use Rattle.fa_giving.specs.inner.Worths.{AreReal, AreWorths, Takes, rooms};
+ghost use Rattle.fa_giving.specs.inner.Worths.{none_below, with_edge, with_edges, rule_worth, joined, adds};
+ghost use Rattle.fa_giving.specs.inner.Worths.{AreWorths, Takes};
 ghost use Rattle.fa_core.specs.Cells.{edges};
 
 use fa_core::faces::BoxFace;
@@ -18,7 +16,7 @@ use fore_base::list::List;
 use fore_base::memory::Mem;
 use std::alloc::Global;
 use ta_core::auto::{Auto, Rule};
-use ta_core::rounds::{Rounds, settle};
+use ta_core::rounds::{Taker, take_all};
 use ta_core::symbol::{Slot, Symbol};
 
 /// What trees give at the root: whether one is the reference to it, how often one gives the field there at most,
@@ -49,7 +47,7 @@ pub fn worths(
         root,
         field,
     };
-    settle(&weighing, &mut table)?;
+    take_all(&weighing, auto.rules.as_slice(), &mut table)?;
     Ok(table)
 }
 
@@ -62,56 +60,25 @@ struct Weighing<'a> {
     field: u32,
 }
 
-impl Rounds<List<Worth>> for Weighing<'_> {
+impl Taker<List<Worth>, Rule> for Weighing<'_> {
     ghost use Rattle.std.specs.Prelude.{◌≡◌, ◌<◌, ℕ, length};
-    ghost use Rattle.fore_base.specs.Lists.{Every};
+    ghost use Rattle.fore_base.specs.Lists.{IsIn};
     ghost use Rattle.ta_core.specs.Language.{HasTree};
-    ghost use Rattle.ta_core.specs.Auto.{IsRanked};
+    ghost use Rattle.ta_core.specs.Auto.{IsRankedRule};
     ghost use Rattle.fa_giving.specs.inner.Worths.{AreReal, IsSettled, rooms};
 
-    ghost keeps = { λ w table. IsRanked w.auto.now × ((q : ℕ) → q < w.auto.now.states → HasTree w.auto.now.rules q)
+    ghost accepts = { λ w rule. IsIn rule w.auto.now.rules × IsRankedRule w.auto.now.states rule };
+
+    ghost keeps = { λ w table. ((q : ℕ) → q < w.auto.now.states → HasTree w.auto.now.rules q)
         × (length table ≡ w.auto.now.states) × AreReal w.boxes.now w.root w.field w.auto.now.rules table };
 
-    ghost is_settled = { λ w table. Every (IsSettled w.boxes.now w.root w.field table) w.auto.now.rules };
+    ghost is_taken = { λ w table rule. IsSettled w.boxes.now w.root w.field table rule };
 
     ghost left = { λ w table. rooms table };
 
-    fn round(&self, table: &mut List<Worth>) -> Mem<bool> {
-        let auto: &Auto = self.auto;
-        auto.known();
-        Ok(take_all(
-            table,
-            self.boxes,
-            auto.rules.as_slice(),
-            self.root,
-            self.field,
-        ))
+    fn take(&self, table: &mut List<Worth>, rule: &Rule) -> Mem<bool> {
+        Ok(take(table, self.boxes, rule, self.root, self.field))
     }
-}
-
-/// Takes each rule once, and says whether one said something new.
-fn take_all(
-    table: &mut List<Worth>,
-    boxes: &[BoxFace],
-    rules: &[Rule],
-    root: u32,
-    field: u32,
-) -> bool
-    requires ranked { Every (IsRankedRule (length table.old)) rules.now }
-    requires trees { (q : ℕ) → q < length table.old → HasTree rules.now q }
-    requires real { AreReal boxes.now root field rules.now table.old }
-    ensures long { length table.new ≡ length table.old }
-    ensures real { AreReal boxes.now root field rules.now table.new }
-    ensures added { MatchBool result (rooms table.new < rooms table.old)
-        ((table.new ≡ table.old) × Every (IsSettled boxes.now root field table.old) rules.now) }
-{
-    let mut added = false;
-    for rule in rules {
-        if take(table, boxes, rule, root, field) {
-            added = true;
-        }
-    }
-    added
 }
 
 /// Adds what the rule says of its state, if it is new, and says whether it is.
