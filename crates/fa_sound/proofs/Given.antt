@@ -1,8 +1,9 @@
 -- What is given at a root, read off the signatures.
 use Rattle.std.proofs.Common.{◌⊎◌, inl, inr, zero, ◌<◌, ◌+◌, slice_get, slice_index_or, arith}
 use Rattle.std.proofs.Common.{◌≡◌, ℕ, suc, Bool, true, false, true≢false, cond, ◌||◌, nat_eq, List, [], ◌∷◌, ◌++◌}
-use Rattle.std.proofs.Common.{map, flat_map, filter, length, Option, Some, None, refl, sym, ap, ap₂, subst, ◌∙◌}
+use Rattle.std.proofs.Common.{map, flat_map, length, Some, None, refl, sym, ap, subst, ◌∙◌}
 use Rattle.std.proofs.lemmas.Bool.{eqb-true, cases_lt}
+use Rattle.fa_core.proofs.CellMarks.{none_there}
 use Rattle.fa_core.proofs.Sorting.{ordered}
 use Rattle.fa_core.proofs.WayParts.{way_roots}
 use Rattle.fore_base.specs.Lists.{IsIn, Every, Paired}
@@ -13,7 +14,7 @@ use Rattle.ta_core.specs.declared.tree.Tree.{Tree}
 use Rattle.fa_core.specs.declared.faces.BoxFace.{BoxFace}
 use Rattle.fa_core.specs.declared.signature.RefMark.{RefMark}
 use Rattle.fa_core.specs.Rearranged.{Rearranged, empty, chain}
-use Rattle.fa_core.specs.Ways.{Way, ways, given, to_root, has, once, roots_met, mark, signature}
+use Rattle.fa_core.specs.Ways.{Way, ways, given, to_root, has, roots_met, mark, signature}
 use Rattle.fa_core.specs.Cells.{mark_of}
 use Rattle.fa_core.specs.declared.signature.Signature.{Signature}
 use Rattle.fa_core.specs.Filled.{Choice, given_at, HasSignatures}
@@ -36,15 +37,6 @@ found_map g e r (x ∷ xs) =
     here true d k = ap (λ (n : ℕ). Some (g n)) (sym (eqb-true r x d))
     here false d k = k
 
-none_to : (r : ℕ) (ws : List Way) → has r (way_roots ws) ≡ false → to_root r ws ≡ []
-none_to r [] h = refl
-none_to r (w ∷ ws) h = here (nat_eq r w.root) h (none_to r ws)
-  where
-    here : (b : Bool) → (b || has r (way_roots ws)) ≡ false → (has r (way_roots ws) ≡ false → to_root r ws ≡ [])
-        → cond b (w ∷ to_root r ws) (to_root r ws) ≡ []
-    here true h f = absurd (true≢false h)
-    here false h f = f h
-
 equal_lists : {xs ys : List ℕ} → xs ≡ ys → Rearranged xs ys
 equal_lists {xs} e = subst (λ (l : List ℕ). Rearranged xs l) e (same xs)
 
@@ -61,7 +53,7 @@ given_tree bs t r = chain (here (has r (way_roots (ways t))) refl) (equal_lists 
         (flat_map (λ w. given bs w.steps) (to_root r (ways t)))
         (fields_of_mark (cond b (Some (mark bs (ways t) r)) None))
     here true e = ordered (flat_map (λ w. given bs w.steps) (to_root r (ways t)))
-    here false e = equal_lists (ap (λ (l : List Way). flat_map (λ w. given bs w.steps) l) (none_to r (ways t) e))
+    here false e = equal_lists (ap (λ (l : List Way). flat_map (λ w. given bs w.steps) l) (none_there r (ways t) e))
 
 pub all_given : (bs : List BoxFace) (autos : List Automaton) (ts : List Tree) (sigs : List (List RefMark))
     → Choice autos ts → Paired (IsOwn bs) autos sigs → (r : ℕ) → Rearranged (given_at bs ts r) (given_of sigs r)

@@ -1,6 +1,6 @@
 -- A mark that provides a field twice is in no tree of a sound forest, nor below one.
 use Rattle.std.proofs.Common.{◌≡◌, inl, inr, ℕ, zero, suc, ◌<◌, ◌≤◌, ◌+◌, Bool, true, false, true≢false, cond, ◌||◌}
-use Rattle.std.proofs.Common.{nat_eq, List, [], ◌∷◌, ◌++◌, map, flat_map, length, Option, Some, None, refl, sym, ap}
+use Rattle.std.proofs.Common.{nat_eq, List, [], ◌∷◌, map, flat_map, length, Option, Some, None, refl, sym, ap}
 use Rattle.std.proofs.Common.{subst, ◌∙◌, arith}
 use Rattle.std.proofs.lemmas.Bool.{eqb-true, eq-eqb}
 use Rattle.fore_base.specs.Lists.{IsIn, Every}
@@ -36,25 +36,17 @@ use Rattle.fa_core.proofs.NodeSpots.{spots_out, with_spots}
 use Rattle.fa_core.proofs.Numbers.{has_left, has_right, has_once}
 use Rattle.fa_core.proofs.Sorting.{ordered}
 use Rattle.fa_core.proofs.WayParts.{edges_map}
+use Rattle.fa_core.proofs.Counts.{often_here, often_more}
 use Rattle.fa_filling.proofs.Fillings.{choice_through, choice_long}
 use Rattle.fa_filling.proofs.SpotRules.{at_edge, run_length}
 use Rattle.fa_sound.specs.inner.Doubled.{twice_from, has_twice, HasDoubled, GivesTwice, SpeaksOfDoubled}
-use Rattle.fa_sound.specs.inner.Learnt.{entry, is_there, AreWitnessed}
+use Rattle.fa_sound.specs.Entries.{entry, is_there}
+use Rattle.fa_sound.specs.inner.Learnt.{said, below_at, AreWitnessed}
 use Rattle.fa_sound.specs.inner.Owned.{fields_of_mark}
 use Rattle.fa_sound.proofs.Given.{found_map, given_tree}
 use Rattle.fa_sound.proofs.Mixed.{leaf_signature}
 
 -- NUMBERS
-
-more_often : (n f : ℕ) (xs : List ℕ) → often n xs ≤ often n (f ∷ xs)
-more_often n f xs = here (nat_eq n f)
-  where
-    here : (b : Bool) → often n xs ≤ cond b (often n xs + 1) (often n xs)
-    here true = omega arith
-    here false = omega arith
-
-often_here : (n : ℕ) (xs : List ℕ) → often n (n ∷ xs) ≡ often n xs + 1
-often_here n xs = let e = eq-eqb n n refl in rw e refl
 
 twice_often : (f : ℕ) (xs : List ℕ) → twice_from f xs ≡ true → (n : ℕ) × (2 ≤ often n (f ∷ xs))
 twice_often f [] h = absurd (true≢false (sym h))
@@ -71,7 +63,7 @@ twice_often f (g ∷ gs) h = here (nat_eq f g) refl h (twice_often g gs)
     here false e h k =
         let w = k h in
         let l = w.1 in
-        let m = more_often w.0 f (g ∷ gs) in
+        let m = often_more w.0 f (g ∷ gs) in
         (w.0, omega (arith, l, m))
 
 twice_there : (xs : List ℕ) → has_twice xs ≡ true → (n : ℕ) × (2 ≤ often n xs)
@@ -322,6 +314,15 @@ entry_low : (xs : List (Option Below)) (k : ℕ) (x : Below) → entry xs k ≡ 
 entry_low [] k x e = absurd (true≢false (sym (ap is_there e)))
 entry_low (y ∷ xs) zero x e = omega arith
 entry_low (y ∷ xs) (suc k) x e = let l = entry_low xs k x e in omega (arith, l)
+
+-- a table says such a mark of a state only where it speaks of a tree
+pub speaks_at : (n : ℕ) (table : List (Option Below)) (q : ℕ) → HasDoubled n (below_at table q).marks
+    → SpeaksOfDoubled n table
+speaks_at n table q h = here (entry table q) refl h
+  where
+    here : (o : Option Below) → entry table q ≡ o → HasDoubled n (said o).marks → SpeaksOfDoubled n table
+    here None e k = absurd k.1
+    here (Some b) e k = (q, b, e, k)
 
 -- where a state of a trimmed automaton has a tree with such a mark, an accepted tree gives a field twice
 pub some_twice : (bs : List BoxFace) (n : ℕ) (a part : Automaton) → HasSameLanguage a part → IsRanked part → IsTrim part

@@ -3,6 +3,8 @@
 use Rattle.std.proofs.Common.{◌≡◌, ◌⊎◌, inl, inr, ℕ, zero, suc, ◌<◌, Bool, true, false, true≢false, ◌&&◌}
 use Rattle.std.proofs.Common.{if◌then◌else◌, List, [], ◌∷◌, map, set, length, Option, Some, None, slice_get, refl}
 use Rattle.std.proofs.Common.{sym, ap, ap₂, subst, ◌∙◌, arith, length-set}
+use Rattle.std.proofs.lemmas.Bool.{and_from, and_parts}
+use Rattle.std.proofs.lemmas.List.{get_or-set_same}
 use Rattle.fore_base.specs.Lists.{IsIn, Every}
 use Rattle.fore_base.proofs.ListLemmas.{every_in, in_every}
 use Rattle.ta_core.specs.declared.auto.Rule.{Rule}
@@ -11,6 +13,7 @@ use Rattle.ta_core.specs.declared.symbol.Symbol.TheVariants.{Null, Uninit, Dangl
 use Rattle.ta_core.specs.declared.tree.Tree.{Tree, out-Tree}
 use Rattle.ta_core.specs.Auto.{Automaton}
 use Rattle.ta_core.specs.Language.{RunOf, run, RunEach, run_none, run_more}
+use Rattle.ta_core.proofs.Rounding.{set_or}
 use Rattle.fa_core.specs.declared.faces.BoxFace.{BoxFace}
 use Rattle.fa_core.specs.declared.signature.RefMark.{RefMark}
 use Rattle.fa_core.specs.declared.signature.Below.{Below}
@@ -18,9 +21,9 @@ use Rattle.fa_core.specs.Ways.{signature}
 use Rattle.fa_core.specs.Filled.{HasSignatures}
 use Rattle.fa_core.specs.Cells.{is_leaf, below_of, marks_by}
 use Rattle.fa_core.proofs.CellMarks.{tree_signature}
-use Rattle.fa_sound.specs.inner.Learnt.{entry, is_there, is_known, all_known, said, below_at, marks_at, rule_below}
-use Rattle.fa_sound.specs.inner.Learnt.{IsKnown, AreWitnessed, IsLearnt, IsSettled, AreOne, with_leaf, kind, shows}
-use Rattle.fa_sound.specs.inner.Learnt.{flag_rule, flagged}
+use Rattle.fa_sound.specs.Entries.{entry, is_there, is_known, all_known, IsKnown}
+use Rattle.fa_sound.specs.inner.Learnt.{said, below_at, marks_at, AreWitnessed, IsLearnt, IsSettled, AreOne}
+use Rattle.fa_sound.specs.inner.Learnt.{with_leaf, kind, shows, flag_rule, flagged}
 use Rattle.fa_sound.proofs.Witnesses.{known_run, known_each, known_entry, rule_witness}
 use Rattle.fa_sound.specs.Signatures.{AreSignatures}
 use Rattle.ta_core.specs.Language.{HasTree}
@@ -63,32 +66,7 @@ is_kind true b h = h
 is_kind false true h = absurd (true≢false h)
 is_kind false false h = refl
 
-both_left : (a b : Bool) → (a && b) ≡ true → a ≡ true
-both_left true b h = refl
-both_left false b h = absurd (true≢false (sym h))
-
-both_right : (a b : Bool) → (a && b) ≡ true → b ≡ true
-both_right true b h = h
-both_right false b h = absurd (true≢false (sym h))
-
-and_both : (a b : Bool) → a ≡ true → b ≡ true → (a && b) ≡ true
-and_both true b h k = k
-and_both false b h k = absurd (true≢false (sym h))
-
 -- TABLES
-
-set_entry : (table : List (Option Below)) (i : ℕ) (x : Option Below) (q : ℕ)
-    → ((q ≡ i) × (entry (set table i x) q ≡ x)) ⊎ (entry (set table i x) q ≡ entry table q)
-set_entry [] i x q = inr refl
-set_entry (e ∷ es) zero x zero = inl (refl, refl)
-set_entry (e ∷ es) zero x (suc q) = inr refl
-set_entry (e ∷ es) (suc i) x zero = inr refl
-set_entry (e ∷ es) (suc i) x (suc q) = elim (set_entry es i x q) [ inl p ↦ inl (ap suc p.0, p.1) | inr k ↦ inr k ]
-
-set_here : (table : List (Option Below)) (i : ℕ) (x : Option Below) → i < length table → entry (set table i x) i ≡ x
-set_here [] i x l = absurd (omega (arith, l))
-set_here (e ∷ es) zero x l = refl
-set_here (e ∷ es) (suc i) x l = set_here es i x (omega (arith, l))
 
 with_there : (k : Bool) (o : Option Below) → is_there (with_leaf k o) ≡ is_there o
 with_there k None = refl
@@ -120,7 +98,7 @@ module _ (k : Bool) where
           ⊎ ((entry (if b then set table r.state (with_leaf k (entry table r.state)) else table) q
           ≡ with_leaf k (entry table q)) × (r.state ≡ q) × (shows k table r ≡ true))
       here false e = inl refl
-      here true e = elim (set_entry table r.state (with_leaf k (entry table r.state)) q) [
+      here true e = elim (set_or table r.state q (with_leaf k (entry table r.state)) None) [
         | inl p ↦ inr (p.1 ∙ ap (λ (n : ℕ). with_leaf k (entry table n)) (sym p.0), sym p.0, e)
         | inr o ↦ inl o
       ]
@@ -200,7 +178,7 @@ module _ (k : Bool) where
     where
       first : (b : Bool) → b ≡ true → entry (if b then set table r.state
           (with_leaf k (entry table r.state)) else table) r.state ≡ with_leaf k (entry table r.state)
-      first true g = set_here table r.state (with_leaf k (entry table r.state)) l
+      first true g = get_or-set_same table r.state (with_leaf k (entry table r.state)) None l
       first false g = absurd (true≢false (sym g))
   flag_there (o ∷ rs) table r (inr i) h l =
       flag_there rs (flag_rule k table o) r i (step_shows table o r ∙ h) (let e = step_long table o in
@@ -240,13 +218,12 @@ module _ (bs : List BoxFace) (rules : List Rule) (table : List (Option Below)) (
           let x : (below_at table q).leaf ≡ true = ap (λ (o : Option Below). (said o).leaf) (sym e) ∙ h in
           subst AreLeafs (ap (λ (b : Below). b.marks) u.2) (leaf_signature bs u.0 (ap (λ (b : Below). b.leaf) u.2 ∙ x)))
       | inr p ↦ (let r = p.1.0 in
-          let c = both_right (kind true (is_leaf r.symbol)) (all_known table r.children) p.1.3 in
-          let d = both_left (kind true (is_leaf r.symbol)) (all_known table r.children) p.1.3 in
+          let c = and_parts (kind true (is_leaf r.symbol)) (all_known table r.children) p.1.3 in
           let e : (below_at lows r.state).marks ≡ marks_at bs lows r = every_in
-          (IsSettled bs lows) rules r slow p.1.1 (flag_all false rules table r.children ∙ c) in
+          (IsSettled bs lows) rules r slow p.1.1 (flag_all false rules table r.children ∙ c.1) in
           let f : (below_at table q).marks ≡ marks_at bs lows r = ap (λ (n : ℕ). (below_at table n).marks) (sym p.1.2)
           ∙ sym (flag_marks false rules table r.state) ∙ e in
-          subst AreLeafs (sym f) (leaf_marks bs r.symbol (map (below_at lows) r.children) d))
+          subst AreLeafs (sym f) (leaf_marks bs r.symbol (map (below_at lows) r.children) c.0))
     ]
 
     -- a tree stands between what is said of its state
@@ -269,7 +246,7 @@ module _ (bs : List BoxFace) (rules : List Rule) (table : List (Option Below)) (
 
         flag : (k : Bool) → is_leaf (out-Tree t).symbol ≡ k → (below_at (flagged k rules table) q).leaf ≡ k
         flag k z =
-            let sh : shows k table r ≡ true = and_both (kind k (is_leaf r.symbol)) (all_known table r.children)
+            let sh : shows k table r ≡ true = and_from (kind k (is_leaf r.symbol)) (all_known table r.children)
             (is_kind k (is_leaf r.symbol) (ap is_leaf s ∙ z)) kids in
             let x = flag_there k rules table r i sh (every_in (λ (o : Rule). o.state < length table) rules r low i) in
             subst (λ (n : ℕ). (below_at (flagged k rules table) n).leaf
@@ -328,13 +305,12 @@ module _ (bs : List BoxFace) (rules : List Rule) (table : List (Option Below)) (
             → HasRule k table rules q → (t : Tree) × RunOf rules q t × (below_of bs t ≡ b)
         here None e f g = absurd (true≢false (ap is_there (sym h ∙ f ∙ ap (with_leaf k) e)))
         here (Some c) e f (r, i, st, sh) =
-            let x = rule_witness bs rules table w r i (both_right (kind k (is_leaf r.symbol))
-            (all_known table r.children) sh) in
+            let v = and_parts (kind k (is_leaf r.symbol)) (all_known table r.children) sh in
+            let x = rule_witness bs rules table w r i v.1 in
             let u = w q c e in
             let y : b ≡ record { leaf = k; marks = c.marks } = ap said (sym h ∙ f ∙ ap (with_leaf k) e) in
             let t : RunOf rules q x.0 = subst (λ (n : ℕ). RunOf rules n x.0) st x.1 in
-            let l : is_leaf r.symbol ≡ k = kind_is k (is_leaf r.symbol)
-            (both_left (kind k (is_leaf r.symbol)) (all_known table r.children) sh) in
+            let l : is_leaf r.symbol ≡ k = kind_is k (is_leaf r.symbol) v.0 in
             let m : marks_at bs table r ≡ c.marks = ap (λ (z : Below). z.marks) (sym x.2) ∙ one q x.0 u.0 t u.1
             ∙ ap (λ (z : Below). z.marks) u.2 in
             (x.0, t, x.2 ∙ ap₂ (λ (z : Bool) (ms : List RefMark). record { leaf = z; marks = ms }) l m ∙ sym y)

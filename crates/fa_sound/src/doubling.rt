@@ -4,10 +4,11 @@ ghost use Rattle.std.specs.Prelude.{◌≡◌, ◌↔◌, ◌<◌, true, false, 
 ghost use Rattle.fore_base.specs.Lists.{IsIn, Every};
 ghost use Rattle.ta_core.specs.Auto.{Automaton};
 ghost use Rattle.fa_sound.specs.inner.Doubled.{twice_from, has_twice, HasDoubled, GivesTwice, SpeaksOfDoubled};
-ghost use Rattle.fa_sound.specs.inner.Learnt.{unknown, AreWitnessed};
+ghost use Rattle.fa_sound.specs.inner.Learnt.{AreWitnessed};
 
+use crate::entries::no_entries;
 use crate::fitting::have_no_boxes;
-use crate::learning::{learn_rule, no_entries};
+use crate::learning::learn_rule;
 use crate::signing::marks_at;
 use fa_core::faces::BoxFace;
 use fa_core::signature::{Below, RefMark};
@@ -15,6 +16,7 @@ use fore_base::list::List;
 use fore_base::memory::Mem;
 use std::alloc::Global;
 use ta_core::auto::{Auto, Rule};
+use ta_core::rounds::{Taker, take_all};
 use ta_core::trimming::trim;
 
 /// Whether each automaton's trees give each field to each root once, as far as is seen: false only where some tree
@@ -42,11 +44,15 @@ fn gives_once(alloc: Global, boxes: &[BoxFace], limit: usize, auto: &Auto) -> Me
 {
     let part = trim(alloc, auto)?;
     part.known();
-    let table = learn_once(alloc, boxes, limit, part.states, part.rules.as_slice())?;
-    if speaks_of_doubled(limit, table.as_slice()) {
-        return Ok(false);
-    }
-    Ok(true)
+    let learnt = learn_once(alloc, boxes, limit, part.states, part.rules.as_slice())?;
+    Ok(!learnt.doubled)
+}
+
+/// What is known of one tree of each state, and whether one has a mark that provides a field twice.
+#[derive(Drop)]
+struct Learnt {
+    table: List<Option<Below>>,
+    doubled: bool,
 }
 
 /// What is known of one tree of each state, up to the first that has a mark which provides a field twice.
@@ -56,54 +62,70 @@ fn learn_once(
     limit: usize,
     states: u32,
     rules: &[Rule],
-) -> Mem<List<Option<Below>>>
+) -> Mem<Learnt>
     requires { Every (λ r. r.state < states) rules.now }
-    ensures long { IfOk result (λ table. length table ≡ states) }
-    ensures witnessed { IfOk result (AreWitnessed boxes.now rules.now) }
+    ensures { IfOk result (λ learnt. (length learnt.table ≡ states) × AreWitnessed boxes.now rules.now learnt.table
+        × (learnt.doubled ≡ true → SpeaksOfDoubled limit learnt.table)) }
 {
-    let mut table = no_entries(alloc, states)?;
-    'rounds: while learn_round(alloc, boxes, limit, &mut table, rules)? {}
-    Ok(table)
+    let table = no_entries(alloc, states)?;
+    let mut learnt = Learnt {
+        table,
+        doubled: false,
+    };
+    let learning = LearningOnce {
+        alloc,
+        boxes,
+        limit,
+        states,
+        rules,
+    };
+    take_all(&learning, rules, &mut learnt)?;
+    Ok(learnt)
 }
 
-/// Takes each rule once, and says whether one gave something new and none a mark that provides a field twice.
-fn learn_round(
+/// What learns of one tree of each state by the rules, up to the first mark that provides a field twice.
+#[derive(Clone, Copy)]
+struct LearningOnce<'a> {
     alloc: Global,
-    boxes: &[BoxFace],
+    boxes: &'a [BoxFace],
     limit: usize,
-    table: &mut List<Option<Below>>,
-    rules: &[Rule],
-) -> Mem<bool>
-    requires { Every (λ r. r.state < length table.old) rules.now }
-    ensures long { IfOk result (λ _. length table.new ≡ length table.old) }
-    ensures witnessed { IfOk result (λ _. AreWitnessed boxes.now rules.now table.old
-        → AreWitnessed boxes.now rules.now table.new) }
-    ensures added { IfOk result (λ added. IsTrue added → unknown table.new < unknown table.old) }
-{
-    let mut added = false;
-    for rule in rules {
-        if learn_rule(alloc, boxes, table, rule)? {
-            if has_doubled(limit, marks_at(table.as_slice(), rule.state)) {
-                return Ok(false);
-            }
-            added = true;
-        }
-    }
-    Ok(added)
+    states: u32,
+    rules: &'a [Rule],
 }
 
-/// Whether the table speaks of a tree with a mark that provides a field twice.
-fn speaks_of_doubled(limit: usize, table: &[Option<Below>]) -> bool
+impl Taker<Learnt, Rule> for LearningOnce<'_> {
+    ghost use Rattle.std.specs.Prelude.{◌≡◌, ◌<◌, true, length};
+    ghost use Rattle.fore_base.specs.Lists.{IsIn};
+    ghost use Rattle.fa_sound.specs.inner.Doubled.{SpeaksOfDoubled};
+    ghost use Rattle.fa_sound.specs.inner.Learnt.{AreWitnessed, unknown};
+
+    ghost accepts = { λ l rule. IsIn rule l.rules.now × (rule.state < l.states) };
+
+    ghost keeps = { λ l learnt. (length learnt.table ≡ l.states)
+        × AreWitnessed l.boxes.now l.rules.now learnt.table
+        × (learnt.doubled ≡ true → SpeaksOfDoubled l.limit learnt.table) };
+
+    ghost is_taken = { λ l learnt rule. Unit {0} };
+
+    ghost left = { λ l learnt. unknown learnt.table };
+
+    fn take(&self, learnt: &mut Learnt, rule: &Rule) -> Mem<bool> {
+        if learnt.doubled {
+            return Ok(false);
+        }
+        if !learn_rule(self.alloc, self.boxes, &mut learnt.table, rule)? {
+            return Ok(false);
+        }
+        learnt.doubled = is_doubled_at(self.limit, learnt.table.as_slice(), rule.state);
+        Ok(true)
+    }
+}
+
+/// Whether the tree of which the table speaks at the state has a mark that provides a field twice.
+fn is_doubled_at(limit: usize, table: &[Option<Below>], state: u32) -> bool
     ensures { IsTrue result → SpeaksOfDoubled limit table.now }
 {
-    for found in table {
-        if let Some(below) = found {
-            if has_doubled(limit, below.marks.as_slice()) {
-                return true;
-            }
-        }
-    }
-    false
+    has_doubled(limit, marks_at(table, state))
 }
 
 /// Whether the mark of a root below the limit provides a field twice.

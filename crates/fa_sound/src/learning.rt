@@ -1,12 +1,12 @@
 // For each state what is known of one tree that has a run to it: found from the leaves upward.
 
-ghost use Rattle.std.specs.Prelude.{◌≡◌, ◌↔◌, ◌<◌, length, None, Some, map, replicate, IsTrue, IfOk, MatchBool};
+ghost use Rattle.std.specs.Prelude.{◌≡◌, ◌<◌, length, map, IfOk};
 ghost use Rattle.std.specs.Option.{option_copied};
 ghost use Rattle.fore_base.specs.Lists.{Every};
-ghost use Rattle.fa_sound.specs.inner.Learnt.{entry, is_known, all_known, said, below_at, marks_at, IsKnown, Learns};
-ghost use Rattle.fa_sound.specs.inner.Learnt.{unknown, AreWitnessed, IsLearnt, IsSettled};
+ghost use Rattle.fa_sound.specs.inner.Learnt.{below_at, marks_at, Learns, IsLearnt};
 ghost use Rattle.fa_sound.specs.inner.Learnt.{with_leaf, kind, shows, flag_rule, flagged};
 
+use crate::entries::{are_known, entry_at, is_known, no_entries};
 use fa_core::cells::{is_leaf, marks_by};
 use fa_core::faces::BoxFace;
 use fa_core::signature::{Below, RefMark};
@@ -14,6 +14,7 @@ use fore_base::list::{Copies, List};
 use fore_base::memory::Mem;
 use std::alloc::{AllocError, Global};
 use ta_core::auto::Rule;
+use ta_core::rounds::{Taker, take_all};
 
 /// For each state that has a tree what is known of one of them. Err is want of memory.
 pub fn learn(
@@ -26,43 +27,43 @@ pub fn learn(
     ensures { IfOk result (IsLearnt boxes.now states rules.now) }
 {
     let mut table = no_entries(alloc, states)?;
-    'rounds: while learn_all(alloc, boxes, &mut table, rules)? {}
+    let learning = Learning {
+        alloc,
+        boxes,
+        states,
+        rules,
+    };
+    take_all(&learning, rules, &mut table)?;
     Ok(table)
 }
 
-/// A table that says nothing of any state. Err is want of memory.
-pub fn no_entries(alloc: Global, states: u32) -> Mem<List<Option<Below>>>
-    ensures { IfOk result (λ table. table ≡ replicate states None) }
-{
-    let mut table = List::new(alloc);
-    for _i in 0..states {
-        table.push(None)?;
-    }
-    Ok(table)
-}
-
-/// Takes each rule once, and says whether one gave something new.
-fn learn_all(
+/// What learns of one tree of each state by the rules.
+#[derive(Clone, Copy)]
+struct Learning<'a> {
     alloc: Global,
-    boxes: &[BoxFace],
-    table: &mut List<Option<Below>>,
-    rules: &[Rule],
-) -> Mem<bool>
-    requires { Every (λ r. r.state < length table.old) rules.now }
-    ensures long { IfOk result (λ _. length table.new ≡ length table.old) }
-    ensures witnessed { IfOk result (λ _. AreWitnessed boxes.now rules.now table.old
-        → AreWitnessed boxes.now rules.now table.new) }
-    ensures added { IfOk result
-        (λ added. MatchBool added (unknown table.new < unknown table.old)
-        ((table.new ≡ table.old) × Every (IsKnown table.old) rules.now)) }
-{
-    let mut added = false;
-    for rule in rules {
-        if learn_rule(alloc, boxes, table, rule)? {
-            added = true;
-        }
+    boxes: &'a [BoxFace],
+    states: u32,
+    rules: &'a [Rule],
+}
+
+impl Taker<List<Option<Below>>, Rule> for Learning<'_> {
+    ghost use Rattle.std.specs.Prelude.{◌≡◌, ◌<◌, length};
+    ghost use Rattle.fore_base.specs.Lists.{IsIn};
+    ghost use Rattle.fa_sound.specs.Entries.{IsKnown};
+    ghost use Rattle.fa_sound.specs.inner.Learnt.{AreWitnessed, unknown};
+
+    ghost accepts = { λ l rule. IsIn rule l.rules.now × (rule.state < l.states) };
+
+    ghost keeps = { λ l table. (length table ≡ l.states) × AreWitnessed l.boxes.now l.rules.now table };
+
+    ghost is_taken = { λ l table rule. IsKnown table rule };
+
+    ghost left = { λ l table. unknown table };
+
+    fn take(&self, table: &mut List<Option<Below>>, rule: &Rule) -> Mem<bool> {
+        let added = learn_rule(self.alloc, self.boxes, table, rule)?;
+        Ok(added)
     }
-    Ok(added)
 }
 
 /// Writes what is known of a tree by the rule, if all its children are known and its state is not, and says whether it
@@ -85,34 +86,6 @@ pub fn learn_rule(
     let leaf = is_leaf(&rule.symbol);
     table.set(rule.state as usize, Some(Below { leaf, marks }));
     Ok(true)
-}
-
-/// What the table says of the state.
-pub fn entry_at<'a>(table: &'a [Option<Below>], state: u32) -> Option<&'a Below>
-    ensures { option_copied result ≡ entry table.entry.now state }
-{
-    match table.get(state as usize) {
-        Some(Some(below)) => Some(below),
-        _ => None,
-    }
-}
-
-fn is_known(table: &[Option<Below>], state: u32) -> bool
-    ensures { result ≡ is_known table.now state }
-{
-    entry_at(table, state).is_some()
-}
-
-/// Whether the table says something of each of the states.
-pub fn are_known(table: &[Option<Below>], states: &[u32]) -> bool
-    ensures { result ≡ all_known table.now states.now }
-{
-    for state in states {
-        if !is_known(table, *state) {
-            return false;
-        }
-    }
-    true
 }
 
 /// The signature of a tree by the rule, over trees of which the table speaks.

@@ -7,7 +7,8 @@ ghost use Rattle.fa_sound.specs.inner.Learnt.{first_known, flagged};
 ghost use Rattle.fa_sound.specs.inner.Learnt.{said, below_at, IsSettled, AreMixed, AreOne, Agrees};
 ghost use Rattle.fa_sound.specs.Signatures.{AreSignatures};
 
-use crate::learning::{are_known, entry_at, flagged, learn, rule_marks};
+use crate::entries::{are_known, entry_at};
+use crate::learning::{flagged, learn, rule_marks};
 use fa_core::faces::BoxFace;
 use fa_core::signature::{Below, RefMark, Signature};
 use fore_base::list::{Copies, List};

@@ -10,7 +10,7 @@ use Rattle.fa_core.specs.declared.signature.Below.{Below}
 use Rattle.fa_core.specs.Cells.{mark_of}
 use Rattle.fa_core.specs.Rearranged.{often}
 use Rattle.fa_core.specs.Ways.{signature}
-use Rattle.fa_sound.specs.inner.Learnt.{entry}
+use Rattle.fa_sound.specs.Entries.{entry}
 use Rattle.fa_sound.specs.inner.Owned.{fields_of_mark}
 
 -- the first number stands again behind it, or one that follows does
