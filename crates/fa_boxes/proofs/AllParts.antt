@@ -31,7 +31,7 @@ use Rattle.fa_filling.proofs.Fillings.{choice_long}
 use Rattle.fa_box_rules.specs.Cells.{IsRightUnder, AreRight}
 use Rattle.fa_box_rules.specs.Rules.{covered_at, root_fields, Gives}
 use Rattle.fa_box_rules.specs.Signs.{AreSignsOf}
-use Rattle.fa_box_rules.proofs.SoundBoxes.{some_choice}
+use Rattle.fa_filling.proofs.Fillings.{some_choice}
 use Rattle.fa_sound.proofs.Given.{given_tree}
 use Rattle.fa_sound.specs.inner.Owned.{fields_of_mark}
 use Rattle.fa_boxes.specs.Ports.{GivesApart}

@@ -1,16 +1,18 @@
 -- What the table of a component says of all trees of its states.
-use Rattle.std.proofs.Common.{◌≡◌, ◌≢◌, ◌⊎◌, inl, inr, ℕ, zero, suc, ◌<◌, ◌≤◌, ◌+◌, Bool, true, false, true≢false, not}
-use Rattle.std.proofs.Common.{◌&&◌, ◌||◌, List, [], ◌∷◌, ◌++◌, length, map, set, replicate, Option, Some, None, refl}
+use Rattle.std.proofs.Common.{◌≡◌, ◌≢◌, ◌⊎◌, inl, inr, ℕ, zero, suc, ◌<◌, ◌+◌, Bool, true, false, true≢false, not}
+use Rattle.std.proofs.Common.{◌||◌, List, [], ◌∷◌, length, map, set, replicate, Option, Some, None, refl}
 use Rattle.std.proofs.Common.{sym, ap, ap₂, subst, ◌∙◌, arith, length-set}
-use Rattle.std.proofs.lemmas.Option.{same_Some}
+use Rattle.std.proofs.lemmas.Bool.{and_parts}
+use Rattle.std.proofs.lemmas.Option.{none-some, same_Some}
 use Rattle.std.specs.Bool.{MatchBool}
 use Rattle.fore_base.specs.Lists.{IsIn, Every}
-use Rattle.fore_base.proofs.ListLemmas.{every_in, every_push}
+use Rattle.fore_base.proofs.ListLemmas.{every_in, every_weaker}
 use Rattle.ta_core.specs.Auto.{Automaton, IsRanked, IsRankedRule}
 use Rattle.ta_core.specs.Language.{RunOf, run, RunEach, run_none, run_more, IsTrim}
 use Rattle.ta_core.specs.declared.auto.Rule.{Rule}
 use Rattle.ta_core.specs.declared.symbol.Symbol.{Symbol}
-use Rattle.ta_core.specs.declared.tree.Tree.{Tree, Tree-F, out-Tree, out-roll-Tree}
+use Rattle.ta_core.specs.declared.tree.Tree.{Tree, out-Tree}
+use Rattle.ta_core.proofs.Rounding.{copies_or, set_or}
 use Rattle.ta_core.proofs.Runs.{tree_of, run_tree}
 use Rattle.fa_core.specs.declared.faces.BoxFace.{BoxFace}
 use Rattle.fa_core.specs.declared.signature.Below.{Below}
@@ -20,19 +22,13 @@ use Rattle.fa_core.specs.Ways.{signature}
 use Rattle.fa_core.proofs.CellMarks.{tree_signature}
 use Rattle.fa_sound.proofs.Between.{AreLeafs, IsBetween, AreBetween, none_between, more_between, marks_between}
 use Rattle.fa_sound.proofs.Mixed.{leaf_signature}
+use Rattle.fa_sound.proofs.Witnesses.{below_tree, known_each, known_run}
+use Rattle.fa_sound.specs.Entries.{entry, is_there, is_known, all_known, IsKnown}
 use Rattle.fa_boxes.specs.Signatures.{SignsApart}
 use Rattle.fa_boxes.specs.declared.seeing.Seen.{Seen}
-use Rattle.fa_boxes.specs.inner.Seeing.{entry, is_there, is_known, all_known, has_kind, shows, said}
-use Rattle.fa_boxes.specs.inner.Seeing.{below_at, own, marks_at, Adds, IsTaken, Learns, lacks, lacking, missing, IsSeen}
-use Rattle.fa_boxes.specs.inner.Seeing.{AreSeen, IsLearnt, IsSettled, IsUnlike, IsUnsettled, IsTable}
-
-and_left : (a b : Bool) → (a && b) ≡ true → a ≡ true
-and_left true b h = refl
-and_left false b h = absurd (true≢false (sym h))
-
-and_right : (a b : Bool) → (a && b) ≡ true → b ≡ true
-and_right true b h = h
-and_right false b h = absurd (true≢false (sym h))
+use Rattle.fa_boxes.specs.inner.Seeing.{has_kind, shows, said, below_at, own, marks_at, Adds, IsTaken, Learns, lacks}
+use Rattle.fa_boxes.specs.inner.Seeing.{lacking, missing, IsSeen, AreSeen, IsLearnt, IsSettled, IsUnlike, IsUnsettled}
+use Rattle.fa_boxes.specs.inner.Seeing.{IsTable}
 
 or_true : (b : Bool) → (b || true) ≡ true
 or_true true = refl
@@ -43,16 +39,6 @@ or_left true h = refl
 or_left false h = h
 
 -- Tables.
-
--- an entry is the one that was written, or an older one
-entry_new : (table : List (Option Seen)) (i : ℕ) (x : Option Seen) (q : ℕ) (s : Seen) → entry (set table i x) q
-    ≡ Some s → ((q ≡ i) × (x ≡ Some s)) ⊎ (entry table q ≡ Some s)
-entry_new [] i x q s h = inr h
-entry_new (e ∷ es) zero x zero s h = inl (refl, h)
-entry_new (e ∷ es) zero x (suc q) s h = inr h
-entry_new (e ∷ es) (suc i) x zero s h = inr h
-entry_new (e ∷ es) (suc i) x (suc q) s h =
-    elim (entry_new es i x q s h) [ inl p ↦ inl (ap suc p.0, p.1) | inr k ↦ inr k ]
 
 missing_set : (table : List (Option Seen)) (i : ℕ) (x : Option Seen) → i < length table → missing (set table i x)
     + lacking (entry table i) ≡ missing table + lacking x
@@ -81,15 +67,7 @@ lacking_less (Some s) false ms x h a =
     here false false h = omega arith
 
 pub none_seen : (bs : List BoxFace) (rules : List Rule) (n : ℕ) → AreSeen bs rules (replicate n None)
-none_seen bs rules n q s h = absurd (none n q h)
-  where
-    nothing : None ≡ Some s → ⊥
-    nothing e = true≢false (sym (ap is_there e))
-
-    none : (n q : ℕ) → entry (replicate n None) q ≡ Some s → ⊥
-    none zero q h = nothing h
-    none (suc n) zero h = nothing h
-    none (suc n) (suc q) h = none n q h
+none_seen bs rules n q s h = absurd (none-some s (sym (copies_or n q None) ∙ h))
 
 -- a known entry is there
 known_entry : (table : List (Option Seen)) (q : ℕ) → is_known table q ≡ true → (s : Seen) × (entry table q ≡ Some s)
@@ -133,9 +111,10 @@ module _ (bs : List BoxFace) (rules : List Rule) where
         × (map (below_of bs) ts ≡ map (below_at k table) qs)
     seen_each [] h = ([], run_none, refl)
     seen_each (q ∷ qs) h =
-        let e = known_entry table q (and_left (is_known table q) (all_known table qs) h) in
+        let b = and_parts (is_known table q) (all_known table qs) h in
+        let e = known_entry table q b.0 in
         let a = said_seen q e.0 (w q e.0 e.1) k in
-        let r = seen_each qs (and_right (is_known table q) (all_known table qs) h) in (
+        let r = seen_each qs b.1 in (
           a.0 ∷ r.0,
           run_more a.1 r.1,
           ap₂ (λ (x : Below) (xs : List Below). x ∷ xs)
@@ -146,16 +125,10 @@ module _ (bs : List BoxFace) (rules : List Rule) where
     rule_seen : (r : Rule) → IsIn r rules → all_known table r.children ≡ true → (t : Tree) × RunOf rules r.state t
         × (below_of bs t ≡ record { leaf = is_leaf r.symbol; marks = marks_at bs k table r })
     rule_seen r i h =
-        let c = seen_each r.children h in
-        let x : Tree-F Tree = record { symbol = r.symbol; children = c.0 } in
-        let o = out-roll-Tree x in
-        let l : is_leaf (out-Tree (tree_of r.symbol c.0)).symbol ≡ is_leaf r.symbol = rw o refl in
-        let m : signature bs (tree_of r.symbol c.0) ≡ marks_at bs k table r =
-        tree_signature bs (tree_of r.symbol c.0)
-        ∙ (rw o refl ∙ ap (λ (xs : List Below). marks_by bs r.symbol xs) c.2) in (
+        let c = seen_each r.children h in (
           tree_of r.symbol c.0,
           run_tree rules r c.0 i c.1,
-          ap₂ (λ (b : Bool) (ms : List RefMark). record { leaf = b; marks = ms }) l m,
+          below_tree bs r.symbol c.0 (map (below_at k table) r.children) c.2,
         )
 
   -- Learning.
@@ -201,60 +174,40 @@ module _ (bs : List BoxFace) (rules : List Rule) where
       both old true e = old true (or_left s.leaf e)
       both old false e = t
 
-  -- what a rule adds
-  module _ (r : Rule) (start now new : List (Option Seen)) where
-    pub rule_adds : (was : Bool) (done : List Rule) → IsIn r rules → r.state < length now
-        → MatchBool was (missing now < missing start) ((now ≡ start) × Every (IsTaken bs start) done)
-        → Learns bs r now new true → (length new ≡ length now) × (AreSeen bs rules now → AreSeen bs rules new)
-        × (missing new < missing start)
-    rule_adds was done i low before (h, k, (x, a, e)) = (
-      ap length e ∙ length-set now r.state (Some x),
-      λ w. subst (AreSeen bs rules) (sym e)
-          (λ q s f. elim (entry_new now r.state (Some x) q s f) [
-            | inl p ↦ (let y : IsSeen bs rules r.state x = add_seen r.state (entry now r.state) (is_leaf r.symbol)
-                (marks_at bs false now r) x a (λ z g. w r.state z g) (rule_seen now w false r i h) in
-                let g : x ≡ s = same_Some x s p.1 in
-                subst (λ (z : Seen). IsSeen bs rules q z) g
-                (subst (λ (n : ℕ). IsSeen bs rules n x) (sym p.0) y))
-            | inr o ↦ w q s o
-          ]),
-      (let g = ap missing e in
-          let m = missing_set now r.state (Some x) low in
-          let d = lacking_less (entry now r.state) (is_leaf r.symbol) (marks_at bs false now r) x k a in
-          let l = below was before in
-          omega (arith, g, m, d, l)),
-    )
-      where
-        below : (was : Bool)
-            → MatchBool was (missing now < missing start) ((now ≡ start) × Every (IsTaken bs start) done)
-            → missing now ≤ missing start
-        below true h = omega (arith, h)
-        below false h = let e = ap missing h.0 in omega (arith, e)
-
-    pub rule_keeps : (was : Bool) (done : List Rule)
-        → MatchBool was (missing now < missing start) ((now ≡ start) × Every (IsTaken bs start) done)
-        → Learns bs r now new false
-        → MatchBool was (missing new < missing start) ((new ≡ start) × Every (IsTaken bs start) (done ++ r ∷ []))
-    rule_keeps true done before kept =
-        subst (λ (m : List (Option Seen)). missing m < missing start) (sym kept.0) before
-    rule_keeps false done before kept = (
-      kept.0 ∙ before.0,
-      every_push (IsTaken bs start) done r before.1
-          (subst (λ (m : List (Option Seen)). IsTaken bs m r) before.0 kept.1),
-    )
+  -- a rule that is taken shows something new of its state, or nothing new
+  pub rule_taken : (n : ℕ) (r : Rule) (now new : List (Option Seen)) (added : Bool) → IsIn r rules × (r.state < n)
+      → (length now ≡ n) × AreSeen bs rules now → Learns bs r now new added
+      → ((length new ≡ n) × AreSeen bs rules new)
+      × MatchBool added (missing new < missing now) ((new ≡ now) × IsTaken bs now r)
+  rule_taken n r now new true given kept (h, k, (x, a, e)) =
+      let long = kept.0 in let low = given.1 in
+      let g = ap missing e in
+      let m = missing_set now r.state (Some x) (omega (arith, long, low)) in
+      let d = lacking_less (entry now r.state) (is_leaf r.symbol) (marks_at bs false now r) x k a in (
+        (
+          ap length e ∙ length-set now r.state (Some x) ∙ kept.0,
+          subst (AreSeen bs rules) (sym e)
+              (λ q s f. elim (set_or now r.state q (Some x) None) [
+                | inl p ↦ (let y : IsSeen bs rules r.state x = add_seen r.state (entry now r.state) (is_leaf r.symbol)
+                    (marks_at bs false now r) x a (λ z g. kept.1 r.state z g)
+                    (rule_seen now kept.1 false r given.0 h) in
+                    let g : x ≡ s = same_Some x s (sym p.1 ∙ f) in
+                    subst (λ (z : Seen). IsSeen bs rules q z) g
+                    (subst (λ (n : ℕ). IsSeen bs rules n x) (sym p.0) y))
+                | inr o ↦ kept.1 q s (sym o ∙ f)
+              ]),
+        ),
+        omega (arith, g, m, d),
+      )
+  rule_taken n r now new false given kept learnt =
+      ((ap length learnt.0 ∙ kept.0, subst (AreSeen bs rules) (sym learnt.0) kept.1), learnt)
 
 -- All trees.
 
 module _ (bs : List BoxFace) (rules : List Rule) (table : List (Option Seen)) (w : AreSeen bs rules table)
     (taken : Every (IsTaken bs table) rules) where
-  mutual
-    known_run : {q : ℕ} {t : Tree} → RunOf rules q t → is_known table q ≡ true
-    known_run (run r i e s rs) = subst (λ (q : ℕ). is_known table q ≡ true) e
-        ((every_in (IsTaken bs table) rules r taken i (known_each rs)).0)
-
-    known_each : {qs : List ℕ} {ts : List Tree} → RunEach rules qs ts → all_known table qs ≡ true
-    known_each run_none = refl
-    known_each (run_more r rs) = let a = known_run r in rw a (known_each rs)
+  known : Every (IsKnown table) rules
+  known = every_weaker (IsTaken bs table) (IsKnown table) rules (λ r t h. (t h).0) taken
 
   -- where a rule is not settled, two trees of its state differ
   pub unlike : (r : Rule) → IsIn r rules → IsUnlike bs table r → (t : Tree) × (u : Tree) × RunOf rules r.state t
@@ -304,7 +257,7 @@ module _ (bs : List BoxFace) (rules : List Rule) (table : List (Option Seen)) (w
       -- each tree has the signature that its state has
       pub own_run : {q : ℕ} {t : Tree} → RunOf rules q t → own table q ≡ signature bs t
       own_run {q} {t} (run r i e s rs) =
-          let c = known_each rs in
+          let c = known_each rules table known rs in
           let d = every_in (IsSettled bs table) rules r settled i c in
           subst (λ (n : ℕ). own table n ≡ marks_at bs false table r) e d.0
           ∙ sym (marks_between bs r.symbol (between_each rs) (sym d.0 ∙ d.1))
@@ -315,7 +268,7 @@ module _ (bs : List BoxFace) (rules : List Rule) (table : List (Option Seen)) (w
           → IsBetween (below_at false table q) (below_of bs t) (below_at true table q)
       between_run {q} {t} (run r i e s rs) m = between_of q t (entry table q) refl
           (subst (λ (n : ℕ). shows (is_leaf (out-Tree t).symbol) (entry table n) ≡ true) e
-          (subst (λ (y : Symbol). shows (is_leaf y) (entry table r.state) ≡ true) s (kind_there r i (known_each rs)))) m
+          (subst (λ (y : Symbol). shows (is_leaf y) (entry table r.state) ≡ true) s (kind_there r i (known_each rules table known rs)))) m
 
       between_each : {qs : List ℕ} {ts : List Tree} → RunEach rules qs ts
           → AreBetween (map (below_at false table) qs) (map (below_of bs) ts) (map (below_at true table) qs)
@@ -328,7 +281,10 @@ module _ (bs : List BoxFace) (a : Automaton) (table : List (Option Seen))
     (l : IsLearnt bs a.states a.rules table) where
   pub settled_table : Every (IsSettled bs table) a.rules → IsTable bs a table
   settled_table h = record {
-    trees = λ q t r. (known_run bs a.rules table l.seen l.whole r, own_run bs a.rules table l.seen l.whole h r);
+    trees = λ q t r. (
+      known_run a.rules table (known bs a.rules table l.seen l.whole) r,
+      own_run bs a.rules table l.seen l.whole h r,
+    );
     some = λ q k. (let e = known_entry table q k in
         let t = said_seen bs a.rules q e.0 (l.seen q e.0 e.1) true in (t.0, t.1));
   }

@@ -10,7 +10,8 @@ use Rattle.fa_core.specs.declared.signature.Signature.{Signature}
 use Rattle.fa_box_rules.specs.Rules.{HaveSignatures}
 use Rattle.fa_box_rules.specs.Signs.{AreSignsOf}
 use Rattle.fa_boxes.specs.declared.seeing.Seen.{Seen}
-use Rattle.fa_boxes.specs.inner.Seeing.{entry, is_there, is_known, said, own, IsTable}
+use Rattle.fa_sound.specs.Entries.{entry, is_there, is_known}
+use Rattle.fa_boxes.specs.inner.Seeing.{said, own, IsTable}
 use Rattle.fa_boxes.specs.inner.Signs.{sign, IsAdded, IsSignAt, AreSignsIn}
 
 -- one state more

@@ -3,7 +3,7 @@ use Rattle.std.proofs.Common.{◌≡◌, inl, inr, ℕ, true, false, List, [], �
 use Rattle.std.proofs.Common.{ap, ◌∙◌, arith}
 use Rattle.fore_base.specs.Lists.{Every}
 use Rattle.ta_core.specs.Auto.{Automaton}
-use Rattle.ta_core.specs.Language.{InLanguage, at_top}
+use Rattle.ta_core.specs.Language.{at_top}
 use Rattle.ta_core.specs.declared.auto.Rule.{Rule}
 use Rattle.ta_core.specs.declared.symbol.Slot.TheVariants.{Field, Link}
 use Rattle.ta_core.specs.declared.symbol.Symbol.TheVariants.{Null, Ref, Cell}
@@ -11,18 +11,19 @@ use Rattle.fa_core.specs.declared.forest.Target.TheVariants.{At}
 use Rattle.fa_core.specs.declared.signature.RefMark.{RefMark}
 use Rattle.fa_core.specs.Boxes.{CoverSome}
 use Rattle.fa_core.specs.Choices.{bares}
-use Rattle.fa_core.specs.Dressed.{Node, Nodes, node, no_parts, field, leaf, no_nodes, more}
+use Rattle.fa_core.specs.Dressed.{Nodes, no_parts, field, leaf, no_nodes, more}
 use Rattle.fa_core.specs.Member.{bare, bare_end}
 use Rattle.fa_core.specs.Rearranged.{chain}
 use Rattle.fa_core.proofs.CellMarks.{tree_signature}
 use Rattle.fa_core.proofs.Dressing.{cell_top, leaf_top}
 use Rattle.fa_core.proofs.GivenTips.{given_tips}
-use Rattle.fa_core.proofs.NodeRuns.{node_bare, end_bare}
+use Rattle.fa_core.proofs.NodeRuns.{end_bare}
 use Rattle.fa_core.proofs.Rearranging.{back, long_same}
 use Rattle.fa_core.proofs.RowsBack.{dll}
 use Rattle.fa_core.proofs.RowsBoxes.{port, port_node, port_runs, dll_box, dll_sound}
 use Rattle.fa_core.proofs.RowsCanonical.{rule, dll_face}
 use Rattle.fa_core.proofs.RowsForests.{bare_cell, bare_node, bare_runs}
+use Rattle.fa_core.proofs.RowsPorts.{both_node, both_runs, one_runs, two_ways}
 use Rattle.fore_base.proofs.ListLemmas.{every_in}
 use Rattle.fa_box_rules.specs.Rules.{HaveSignatures, IsFaceOf, inside_of}
 use Rattle.fa_box_rules.proofs.SoundBoxes.{face_is}
@@ -55,47 +56,6 @@ covers_none : CoverSome [] bare_cell → ⊥
 covers_none h = let e = cell_top 0 0 [] no_parts in let k = h (bare bare_node) bare_runs in rw e at k
 
 -- An output with two root rules: one covers next and prev by own slots, and one next alone.
-
-abbrev two_ways : Automaton
-two_ways = record {
-  states = 2;
-  roots = 0 ∷ [];
-  rules = rule 0 (Cell 0 [] (Field 0 ∷ Field 1 ∷ [])) (1 ∷ 1 ∷ []) ∷ rule 0 (Cell 0 [] (Field 0 ∷ [])) (1 ∷ [])
-      ∷ rule 1 (Ref 0) [] ∷ [];
-}
-
-abbrev both_node : Node
-both_node = node 1 0 [] (field 0 (leaf (At 0)) (field 1 (leaf (At 0)) no_parts))
-
-both_runs : InLanguage two_ways (bare both_node)
-both_runs = (
-  0,
-  inl refl,
-  node_bare two_ways.rules 0 both_node (
-    rule 0 (Cell 0 [] (Field 0 ∷ Field 1 ∷ [])) (1 ∷ 1 ∷ []),
-    inl refl,
-    refl,
-    refl,
-    (
-      (rule 1 (Ref 0) [], inr (inr (inl refl)), refl, refl, refl),
-      ((rule 1 (Ref 0) [], inr (inr (inl refl)), refl, refl, refl), tt),
-    ),
-  ),
-)
-
-next_runs : InLanguage two_ways (bare (port_node 1 0 0))
-next_runs = (
-  0,
-  inl refl,
-  node_bare two_ways.rules 0 (port_node 1 0 0) (
-    rule 0 (Cell 0 [] (Field 0 ∷ [])) (1 ∷ []),
-    inr (inl refl),
-    refl,
-    refl,
-    ((rule 1 (Ref 0) [], inr (inr (inl refl)), refl, refl, refl), tt),
-  ),
-)
-
 -- prev is covered in the one alone, also where it is given in the other
 prev_apart : CoverApart [] two_ways
 prev_apart =
@@ -105,7 +65,7 @@ prev_apart =
       bare both_node,
       bare (port_node 1 0 0),
       both_runs,
-      next_runs,
+      one_runs,
       rw a (inr (inl refl)),
       (λ i. (let j = rw b at i in elim j [ inl e ↦ omega (arith, e) | inr x ↦ x ])),
     )
@@ -124,7 +84,7 @@ fields_apart =
       bares both_nodes,
       bares next_nodes,
       (port_runs 0 0 1, (both_runs, tt)),
-      (port_runs 0 0 1, (next_runs, tt)),
+      (port_runs 0 0 1, (one_runs, tt)),
       (λ h. (let z = long_same (rw (a, b, given_tips [] 1 both_nodes, given_tips [] 1 next_nodes) at h) in
           omega (arith, z))),
     )

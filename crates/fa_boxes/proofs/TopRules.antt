@@ -1,41 +1,26 @@
 -- What the rules of root states say of the trees of a trimmed automaton.
-use Rattle.std.proofs.Common.{◌≡◌, ◌↔◌, ℕ, ◌<◌, List, [], ◌∷◌, refl, sym, ap, subst}
-use Rattle.fore_base.specs.Lists.{IsIn, Every}
+use Rattle.std.proofs.Common.{◌≡◌, ◌↔◌, ℕ, ◌<◌, List, refl, sym, ap, subst}
+use Rattle.fore_base.specs.Lists.{IsIn}
 use Rattle.fore_base.proofs.ListLemmas.{every_in, in_every, every_weaker}
 use Rattle.ta_core.specs.Auto.{Automaton, IsRanked, IsRankedRule}
-use Rattle.ta_core.specs.Language.{InLanguage, IsTrim, HasTree, RunOf, run, RunEach, run_none, run_more, PassesBy}
-use Rattle.ta_core.specs.Language.{at_top}
-use Rattle.ta_core.specs.Language.{below, OnePasses, this_one, later_one}
+use Rattle.ta_core.specs.Language.{InLanguage, IsTrim, HasTree, RunOf, run}
 use Rattle.ta_core.specs.declared.auto.Rule.{Rule}
 use Rattle.ta_core.specs.declared.symbol.Slot.{Slot}
 use Rattle.ta_core.specs.declared.symbol.Symbol.{Symbol}
 use Rattle.ta_core.specs.declared.symbol.Symbol.TheVariants.{Null, Uninit, Dangling, Ref, Cell}
 use Rattle.ta_core.specs.declared.tree.Tree.{Tree, out-Tree, out-roll-Tree}
-use Rattle.ta_core.proofs.Runs.{tree_of, run_tree}
+use Rattle.ta_core.proofs.Runs.{tree_of, run_tree, trees_of, passed_tree}
 use Rattle.fore_base.specs.declared.store.Datum.{Datum}
 use Rattle.fa_boxes.specs.Tops.{AreTopped}
 use Rattle.fa_boxes.specs.inner.TopRules.{AtTop, AtTops, IsCellOf}
-
-mutual
-  passed : (rules : List Rule) {q p : ℕ} {t : Tree} → PassesBy rules q p t → HasTree rules q
-  passed rules {q} {p} {t} (at_top e r) = (t, subst (λ (x : ℕ). RunOf rules x t) e r)
-  passed rules (below r i e s o) = passed_one rules o
-
-  passed_one : (rules : List Rule) {q : ℕ} {ps : List ℕ} {ts : List Tree} → OnePasses rules q ps ts → HasTree rules q
-  passed_one rules (this_one p k) = passed rules p
-  passed_one rules (later_one r o) = passed_one rules o
-
-trees_for : (rules : List Rule) (qs : List ℕ) → Every (HasTree rules) qs → (ts : List Tree) × RunEach rules qs ts
-trees_for rules [] h = ([], run_none)
-trees_for rules (q ∷ qs) h = let k = trees_for rules qs h.1 in (h.0.0 ∷ k.0, run_more h.0.1 k.1)
 
 module _ (a : Automaton) (ranked : IsRanked a) (trim : IsTrim a) where
   -- each rule is the last of some tree's run
   pub rule_run : (r : Rule) → IsIn r a.rules → (t : Tree) × RunOf a.rules r.state t × ((out-Tree t).symbol ≡ r.symbol)
   rule_run r i =
       let c : IsRankedRule a.states r = every_in (IsRankedRule a.states) a.rules r ranked.1 i in
-      let k = trees_for a.rules r.children (every_weaker (λ (q : ℕ). q < a.states) (HasTree a.rules) r.children
-      (λ q l. (let p = trim q l in passed a.rules p.3)) c.1) in (
+      let k = trees_of a.rules r.children (every_weaker (λ (q : ℕ). q < a.states) (HasTree a.rules) r.children
+      (λ q l. (let p = trim q l in passed_tree p.3)) c.1) in (
         tree_of r.symbol k.0,
         run_tree a.rules r k.0 i k.1,
         ap (λ x. x.symbol) (out-roll-Tree (record { symbol = r.symbol; children = k.0 })),

@@ -7,18 +7,21 @@ ghost use Rattle.std.specs.Option.{option_copied};
 ghost use Rattle.fore_base.specs.Lists.{Every};
 ghost use Rattle.ta_core.specs.Language.{IsTrim};
 ghost use Rattle.fa_boxes.specs.Signatures.{SignsApart};
-ghost use Rattle.fa_boxes.specs.inner.Seeing.{entry, is_known, all_known, said, below_at, own, marks_at, shows, Adds};
-ghost use Rattle.fa_boxes.specs.inner.Seeing.{Learns, AreSeen, IsTaken, IsLearnt, missing, IsSettled, IsUnlike};
+ghost use Rattle.fa_sound.specs.Entries.{entry};
+ghost use Rattle.fa_boxes.specs.inner.Seeing.{said, below_at, own, marks_at, shows, Adds};
+ghost use Rattle.fa_boxes.specs.inner.Seeing.{Learns, IsLearnt, IsSettled, IsUnlike};
 ghost use Rattle.fa_boxes.specs.inner.Seeing.{IsUnsettled, IsTable};
 
 use fa_core::cells::{is_leaf, marks_by};
 use fa_core::faces::BoxFace;
 use fa_core::signature::{Below, RefMark};
 use fa_sound::are_same;
+use fa_sound::entries::{are_known, entry_at, no_entries};
 use fore_base::list::{Copies, List};
 use fore_base::memory::Mem;
 use std::alloc::Global;
 use ta_core::auto::{Auto, Rule};
+use ta_core::rounds::{Taker, take_all};
 
 /// What is known of the trees of a state: whether some is a leaf, whether some has a cell at its top, and their
 /// signature.
@@ -49,42 +52,43 @@ fn learn(alloc: Global, boxes: &[BoxFace], states: u32, rules: &[Rule]) -> Mem<L
     requires { Every (λ r. r.state < states) rules.now }
     ensures { IfOk result (IsLearnt boxes.now states rules.now) }
 {
-    let mut table = nothing(alloc, states)?;
-    'rounds: while learn_all(alloc, boxes, &mut table, rules)? {}
+    let mut table = no_entries(alloc, states)?;
+    let learning = Learning {
+        alloc,
+        boxes,
+        states,
+        rules,
+    };
+    take_all(&learning, rules, &mut table)?;
     Ok(table)
 }
 
-fn nothing(alloc: Global, states: u32) -> Mem<List<Option<Seen>>>
-    ensures { IfOk result (λ table. table ≡ replicate states None) }
-{
-    let mut table = List::new(alloc);
-    for _i in 0..states {
-        table.push(None)?;
-    }
-    Ok(table)
-}
-
-/// Takes each rule once, and says whether one gave something new.
-fn learn_all(
+/// What learns of the trees of each state by the rules.
+#[derive(Clone, Copy)]
+struct Learning<'a> {
     alloc: Global,
-    boxes: &[BoxFace],
-    table: &mut List<Option<Seen>>,
-    rules: &[Rule],
-) -> Mem<bool>
-    requires { Every (λ r. r.state < length table.old) rules.now }
-    ensures long { IfOk result (λ _. length table.new ≡ length table.old) }
-    ensures seen { IfOk result (λ _. AreSeen boxes.now rules.now table.old → AreSeen boxes.now rules.now table.new) }
-    ensures added { IfOk result
-        (λ added. MatchBool added (missing table.new < missing table.old)
-        ((table.new ≡ table.old) × Every (IsTaken boxes.now table.old) rules.now)) }
-{
-    let mut added = false;
-    for rule in rules {
-        if learn_rule(alloc, boxes, table, rule)? {
-            added = true;
-        }
+    boxes: &'a [BoxFace],
+    states: u32,
+    rules: &'a [Rule],
+}
+
+impl Taker<List<Option<Seen>>, Rule> for Learning<'_> {
+    ghost use Rattle.std.specs.Prelude.{◌≡◌, ◌<◌, length};
+    ghost use Rattle.fore_base.specs.Lists.{IsIn};
+    ghost use Rattle.fa_boxes.specs.inner.Seeing.{AreSeen, IsTaken, missing};
+
+    ghost accepts = { λ l rule. IsIn rule l.rules.now × (rule.state < l.states) };
+
+    ghost keeps = { λ l table. (length table ≡ l.states) × AreSeen l.boxes.now l.rules.now table };
+
+    ghost is_taken = { λ l table rule. IsTaken l.boxes.now table rule };
+
+    ghost left = { λ l table. missing table };
+
+    fn take(&self, table: &mut List<Option<Seen>>, rule: &Rule) -> Mem<bool> {
+        let added = learn_rule(self.alloc, self.boxes, table, rule)?;
+        Ok(added)
     }
-    Ok(added)
 }
 
 /// Writes what a tree by the rule shows, if all its children are known, and says whether that is new.
@@ -134,33 +138,6 @@ fn with_kind(found: Option<&Seen>, leaf: bool, marks: List<RefMark>) -> Option<S
             })
         }
     }
-}
-
-/// What the table says of the state.
-pub fn entry_at<'a>(table: &'a [Option<Seen>], state: u32) -> Option<&'a Seen>
-    ensures { option_copied result ≡ entry table.entry.now state }
-{
-    match table.get(state as usize) {
-        Some(Some(seen)) => Some(seen),
-        _ => None,
-    }
-}
-
-fn is_known(table: &[Option<Seen>], state: u32) -> bool
-    ensures { result ≡ is_known table.now state }
-{
-    entry_at(table, state).is_some()
-}
-
-fn are_known(table: &[Option<Seen>], states: &[u32]) -> bool
-    ensures { result ≡ all_known table.now states.now }
-{
-    for state in states {
-        if !is_known(table, *state) {
-            return false;
-        }
-    }
-    true
 }
 
 /// Whether a leaf, or a cell, as `leaf` says, is known of the state.

@@ -9,10 +9,11 @@ ghost use Rattle.fa_box_rules.specs.Signs.{AreSignsOf, AreSigns};
 ghost use Rattle.fa_boxes.specs.Signatures.{SignsApart, SomeSignsApart};
 ghost use Rattle.fa_boxes.specs.inner.Signs.{sign, IsAdded, AreSignsIn};
 
-use crate::seeing::{Seen, entry_at, seen_each};
+use crate::seeing::{Seen, seen_each};
 use fa_core::faces::BoxFace;
 use fa_core::signature::{RefMark, Signature};
 use fa_sound::are_same;
+use fa_sound::entries::entry_at;
 use fore_base::list::{Copies, List};
 use fore_base::memory::Mem;
 use std::alloc::Global;

@@ -1,6 +1,6 @@
 -- What is known of the trees of each state.
-use Rattle.std.specs.Prelude.{◌≡◌, ◌≢◌, ◌⊎◌, ℕ, ◌+◌, Bool, true, false, not, ◌&&◌, ◌||◌, List, [], ◌∷◌, map, length}
-use Rattle.std.specs.Prelude.{Option, Some, None, slice_index_or, slice_set}
+use Rattle.std.specs.Prelude.{◌≡◌, ◌≢◌, ◌⊎◌, ℕ, ◌+◌, Bool, true, false, not, ◌||◌, List, [], ◌∷◌, map, length}
+use Rattle.std.specs.Prelude.{Option, Some, None, slice_set}
 use Rattle.fore_base.specs.Lists.{IsIn, Every}
 use Rattle.ta_core.specs.Auto.{Automaton}
 use Rattle.ta_core.specs.Language.{RunOf}
@@ -11,24 +11,8 @@ use Rattle.fa_core.specs.declared.signature.Below.{Below}
 use Rattle.fa_core.specs.declared.signature.RefMark.{RefMark}
 use Rattle.fa_core.specs.Cells.{is_leaf, below_of, marks_by}
 use Rattle.fa_core.specs.Ways.{signature}
+use Rattle.fa_sound.specs.Entries.{entry, is_known, all_known}
 use Rattle.fa_boxes.specs.declared.seeing.Seen.{Seen}
-
--- what the table says of the state
-abbrev pub entry : List (Option Seen) → ℕ → Option Seen
-entry table q = slice_index_or table q None
-
--- the table says something
-abbrev pub is_there : Option Seen → Bool
-is_there None = false
-is_there (Some s) = true
-
-abbrev pub is_known : List (Option Seen) → ℕ → Bool
-is_known table q = is_there (entry table q)
-
--- it says something of each of the states
-abbrev pub all_known : List (Option Seen) → List ℕ → Bool
-all_known table [] = true
-all_known table (q ∷ qs) = is_known table q && all_known table qs
 
 -- a leaf is known, where k is true, or a cell, where it is false
 abbrev pub has_kind : Bool → Seen → Bool

@@ -4,7 +4,8 @@ use Rattle.fore_base.specs.Lists.{IsIn, Every, IsDistinct}
 use Rattle.fa_core.specs.declared.signature.RefMark.{RefMark}
 use Rattle.fa_core.specs.declared.signature.Signature.{Signature}
 use Rattle.fa_boxes.specs.declared.seeing.Seen.{Seen}
-use Rattle.fa_boxes.specs.inner.Seeing.{is_known, own}
+use Rattle.fa_sound.specs.Entries.{is_known}
+use Rattle.fa_boxes.specs.inner.Seeing.{own}
 
 -- the signature of these marks
 abbrev pub sign : List RefMark → Signature
