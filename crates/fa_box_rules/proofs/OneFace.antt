@@ -17,9 +17,10 @@ use Rattle.fa_core.proofs.Rearranging.{back}
 use Rattle.fa_core.proofs.Sorting.{order_same}
 use Rattle.fa_back.specs.Insides.{IsInside, AreRankedInsides, AlwaysReaches, NeverReaches}
 use Rattle.fa_back.specs.Reached.{IsSignedBy, AreSignaturesOf}
+use Rattle.fa_back.proofs.Dressable.{some_choice}
 use Rattle.fa_back.proofs.InsideLaws.{up_closure, nowhere_closure}
 use Rattle.fa_box_rules.specs.Rules.{GivesOutput}
-use Rattle.fa_box_rules.proofs.SoundBoxes.{begin_at, some_choice, face_is, place_tree, top_is, top_same}
+use Rattle.fa_box_rules.proofs.SoundBoxes.{begin_at, face_is, place_tree, top_is, top_same}
 
 -- Numbers in rising order are the only ones with these items.
 

@@ -1,5 +1,5 @@
 -- A sound box breaks none of the rules, and its face is what its trees show outside.
-use Rattle.std.proofs.Common.{◌≡◌, ◌≢◌, inl, inr, ℕ, zero, suc, ◌<◌, ◌≤◌, ◌+◌, Bool, true, false, true≢false, List}
+use Rattle.std.proofs.Common.{◌≡◌, inl, inr, ℕ, zero, suc, ◌<◌, ◌≤◌, ◌+◌, Bool, true, false, true≢false, List}
 use Rattle.std.proofs.Common.{[]}
 use Rattle.std.proofs.Common.{◌∷◌, ◌++◌, Option, Some, None, slice_get, refl, sym, ap, subst}
 use Rattle.std.proofs.Common.{◌∙◌, arith}
@@ -26,6 +26,7 @@ use Rattle.fa_core.specs.Filled.{Spot}
 use Rattle.fa_core.specs.Filled.{spots, given_at, HasSome}
 use Rattle.fa_core.specs.Folding.{covered_fields}
 use Rattle.fa_core.specs.Rearranged.{Rearranged, chain, RisesFrom, IsRising}
+use Rattle.fa_back.proofs.Dressable.{some_choice}
 use Rattle.fa_core.proofs.FilledKept.{choice_with}
 use Rattle.fa_core.proofs.NodeSpots.{spots_out}
 use Rattle.fa_core.proofs.Permuted.{distinct_moved, in_rearranged}
@@ -206,11 +207,6 @@ pub begin_at : (xs ys : List ℕ) (r s : ℕ) → Begins xs ys → slice_get xs 
 begin_at [] ys r s h e = absurd (none-some s e)
 begin_at (x ∷ xs) ys zero s h e = let m = h.1 in rw m e
 begin_at (x ∷ xs) ys (suc r) s h e = let m = h.1 in rw m (begin_at xs (xs ++ h.0) r s (h.0, refl) e)
-
--- a choice, by components that have trees
-pub some_choice : (autos : List Automaton) → Every HasSome autos → (ts : List Tree) × Choice autos ts
-some_choice [] h = ([], tt)
-some_choice (a ∷ autos) h = let r = some_choice autos h.1 in (h.0.0 ∷ r.0, (h.0.1, r.1))
 
 module _ (face : Face) (T : List BoxDef) (b : BoxDef) (sound : SoundBox face T b) where
   -- the fields of a port, for each choice

@@ -22,6 +22,7 @@ use Rattle.fa_core.specs.Filled.{Spot}
 use Rattle.fa_core.specs.Filled.{spots, given_at, HasField, HasSome}
 use Rattle.fa_core.specs.Folding.{covered_fields}
 use Rattle.fa_core.specs.Rearranged.{Rearranged}
+use Rattle.fa_back.proofs.Dressable.{some_choice}
 use Rattle.fa_core.proofs.Rearranging.{back}
 use Rattle.fa_core.proofs.NodeSpots.{spots_out}
 use Rattle.fa_box_rules.specs.Cells.{MayName, FieldMayEnd, EndMayFit, EndsMayFit, IsRightCell}
@@ -30,7 +31,7 @@ use Rattle.fa_box_rules.specs.Cells.{AreRight}
 use Rattle.fa_box_rules.specs.Rules.{port_count, structs_of, root_fields, Gives, GivesOutput}
 use Rattle.fa_box_rules.specs.Rules.{inside_of}
 use Rattle.fa_box_rules.specs.Rules.{AreRefsThere, IsUnbroken}
-use Rattle.fa_box_rules.proofs.SoundBoxes.{some_choice, nil_only, are_right, ports_differ}
+use Rattle.fa_box_rules.proofs.SoundBoxes.{nil_only, are_right, ports_differ}
 use Rattle.fa_box_rules.proofs.SoundBoxes.{ports_count, tree_topped, port_struct, face_is}
 
 -- From right cells to filled ones.
