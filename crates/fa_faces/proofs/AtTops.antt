@@ -2,7 +2,7 @@
 use Rattle.std.proofs.Common.{◌≡◌, ◌≢◌, inl, inr, ℕ, zero, suc, ◌<◌, Bool, true, false, true≢false, not, nat_eq}
 use Rattle.std.proofs.Common.{MatchBool, List, [], ◌∷◌, flat_map, Option, Some, None, slice_get, refl, sym, ap}
 use Rattle.std.proofs.Common.{subst, ◌∙◌, arith}
-use Rattle.std.proofs.lemmas.Bool.{eqb-true, eq-eqb}
+use Rattle.std.proofs.lemmas.Bool.{eqb-true, eq-eqb, not-false, not-true}
 use Rattle.std.proofs.lemmas.Option.{none-some, same_Some}
 use Rattle.fore_base.specs.Lists.{IsIn, Every}
 use Rattle.fore_base.specs.declared.store.Datum.{Datum}
@@ -48,14 +48,6 @@ other s Dangling = false
 other s (Ref r) = false
 other s (Cell u ds ss) = not (nat_eq u s)
 
-not_true : (b : Bool) → not b ≡ true → b ≡ false
-not_true true e = absurd (true≢false (sym e))
-not_true false e = refl
-
-not_false : (b : Bool) → not b ≡ false → b ≡ true
-not_false true e = refl
-not_false false e = absurd (true≢false e)
-
 other_is : (s : ℕ) (y : Symbol) → other s y ≡ true → (u : ℕ) × (ds : List Datum) × (ss : List Slot) × (y ≡ Cell u ds ss)
     × (u ≢ s)
 other_is s Null e = absurd (true≢false (sym e))
@@ -63,7 +55,7 @@ other_is s Uninit e = absurd (true≢false (sym e))
 other_is s Dangling e = absurd (true≢false (sym e))
 other_is s (Ref r) e = absurd (true≢false (sym e))
 other_is s (Cell u ds ss) e =
-    (u, ds, ss, refl, (λ q. true≢false (sym (eq-eqb u s q) ∙ not_true (nat_eq u s) e)))
+    (u, ds, ss, refl, (λ q. true≢false (sym (eq-eqb u s q) ∙ not-true (nat_eq u s) e)))
 
 same_is : (s : ℕ) (y : Symbol) → is_leaf y ≡ false → other s y ≡ false → (ds : List Datum) × (ss : List Slot)
     × (y ≡ Cell s ds ss)
@@ -72,7 +64,7 @@ same_is s Uninit l e = absurd (true≢false l)
 same_is s Dangling l e = absurd (true≢false l)
 same_is s (Ref r) l e = absurd (true≢false l)
 same_is s (Cell u ds ss) l e =
-    (ds, ss, ap (λ (x : ℕ). Cell x ds ss) (eqb-true u s (not_false (nat_eq u s) e)))
+    (ds, ss, ap (λ (x : ℕ). Cell x ds ss) (eqb-true u s (not-false (nat_eq u s) e)))
 
 -- the list is empty
 abbrev is_none : List ℕ → Bool

@@ -22,7 +22,8 @@ use Rattle.fa_reach.specs.Choices.{AllReach, SomeMissed, AlwaysLeads, NeverLeads
 use Rattle.fa_faces.specs.Faults.{box_inside}
 use Rattle.fa_faces.specs.inner.Parts.{IsReady, AllRight, AreTopsRight, AreSigned, IsGiven, IsShown}
 use Rattle.fa_faces.proofs.Faced.{shown_inside, shown_unbroken, shown_six}
-use Rattle.fa_faces.proofs.Reaching.{signs_low, signs_some, signs_long}
+use Rattle.fa_reach.proofs.TreeLaws.{signs_full}
+use Rattle.fa_faces.proofs.Reaching.{signs_low, signs_long}
 use Rattle.fa_faces.proofs.Silent.{silent_port}
 
 -- the tree at a place of a choice is one of the component's there
@@ -49,7 +50,7 @@ module _ (t : Boxes) (input : ℕ) (output : Option ℕ) (autos : List Automaton
       (signs_low t.face.boxes (length autos) autos lists signed.0 ready.named.refs)
 
   pub lists_some : Every HasSign lists
-  lists_some = signs_some t.face.boxes autos lists signed.0 ready.full
+  lists_some = signs_full t.face.boxes autos lists signed.0 ready.full
 
   pub lists_ports : (n : ℕ) → n ≤ length autos → n ≤ length lists
   lists_ports n l = subst (λ (k : ℕ). n ≤ k) long l

@@ -7,12 +7,10 @@ use Rattle.ta_core.specs.declared.tree.Tree.{Tree}
 use Rattle.fa_core.specs.declared.faces.BoxFace.{BoxFace}
 use Rattle.fa_core.specs.declared.signature.Signature.{Signature}
 use Rattle.fa_core.specs.Canonical.{RefersTo}
-use Rattle.fa_core.specs.Filled.{HasSome}
 use Rattle.fa_back.specs.Reached.{AllNameBelow, NamesBelow}
 use Rattle.fa_back.proofs.ForestLaws.{signs_within}
 use Rattle.fa_box_rules.specs.Rules.{AreRefsBelow}
 use Rattle.fa_box_rules.specs.Signs.{AreSignsOf, AreSigns}
-use Rattle.fa_reach.specs.Choices.{HasSign}
 use Rattle.fa_faces.proofs.Named.{tree_low}
 
 module _ (bs : List BoxFace) where
@@ -34,15 +32,6 @@ module _ (bs : List BoxFace) where
             | inr z ↦ absurd z
           ]) in
           b.0
-
-  -- and has a member
-  pub signs_some : (autos : List Automaton) (lists : List (List Signature)) → AreSigns bs autos lists
-      → Every HasSome autos → Every HasSign lists
-  signs_some [] [] h f = tt
-  signs_some [] (l ∷ lists) h f = absurd h
-  signs_some (a ∷ autos) [] h f = absurd h
-  signs_some (a ∷ autos) (l ∷ lists) h f =
-      (let w = h.0.each f.0.0 f.0.1 in (w.0, w.1), signs_some autos lists h.1 f.1)
 
   pub signs_long : (autos : List Automaton) (lists : List (List Signature)) → AreSigns bs autos lists
       → length autos ≡ length lists

@@ -1,11 +1,11 @@
 -- Worked boxes: the face that they have, or the first rule that they break.
 use Rattle.std.proofs.Common.{◌≡◌, ◌⊎◌, inl, inr, ℕ, ◌<◌, List, [], ◌∷◌, length, refl, sym, ap, subst, ◌∙◌, Some, None}
-use Rattle.std.proofs.Common.{false, arith}
+use Rattle.std.proofs.Common.{arith}
 use Rattle.fore_base.specs.Lists.{IsIn}
 use Rattle.fore_base.specs.declared.store.Value.TheVariants.{Cell as CellValue}
 use Rattle.ta_core.specs.Auto.{Automaton}
-use Rattle.ta_core.specs.Language.{InLanguage, IsBarren, run}
-use Rattle.ta_core.specs.declared.symbol.Slot.TheVariants.{Field, Link}
+use Rattle.ta_core.specs.Language.{InLanguage}
+use Rattle.ta_core.specs.declared.symbol.Slot.TheVariants.{Link}
 use Rattle.ta_core.specs.declared.symbol.Symbol.{Symbol}
 use Rattle.ta_core.specs.declared.symbol.Symbol.TheVariants.{Ref, Cell}
 use Rattle.ta_core.specs.declared.tree.Tree.{Tree}
@@ -31,6 +31,7 @@ use Rattle.fa_core.proofs.RowsCanonical.{rule, dll_face}
 use Rattle.fa_core.proofs.RowsChains.{chain_structs}
 use Rattle.fa_core.proofs.RowsForests.{bare_cell, bare_node, bare_runs}
 use Rattle.fa_core.proofs.RowsHooks.{ring_autos, ring_box, ring_face, ring_sound}
+use Rattle.fa_core.proofs.RowsPorts.{both_node, both_runs, no_rules, no_tree, one_runs, two_ways}
 use Rattle.fa_core.proofs.SeenCells.{structs_tops}
 use Rattle.fa_core.proofs.SingleTrees.{same_tree, single_tree, single_choice}
 use Rattle.fa_core.proofs.WaysOf.{tree_roots}
@@ -44,12 +45,6 @@ use Rattle.fa_faces.specs.declared.fault.FaceFault.TheVariants.{Breaks, Memory}
 use Rattle.fa_faces.proofs.Faced.{right_no_four, full_no_seven}
 
 -- B7, and no other rule, where the second component has no tree
-
-abbrev no_rules : Automaton
-no_rules = record { states = 1; roots = 0 ∷ []; rules = [] }
-
-no_tree : IsBarren no_rules
-no_tree t (q, i, run r j e s k) = j
 
 empty_component : (face : Face) (T : List BoxDef)
     → IsFaultOf face T (box_inside 0 (Some 0) (port 0 1 ∷ no_rules ∷ [])) (Breaks B7)
@@ -161,52 +156,11 @@ input_given_alone T = (
 )
 
 -- B5: the output has two root rules, of which the one covers `next` and `prev`, and the other `next` alone
-
-abbrev two_rules : Automaton
-two_rules = record {
-  states = 2;
-  roots = 0 ∷ [];
-  rules = rule 0 (Cell 0 [] (Field 0 ∷ Field 1 ∷ [])) (1 ∷ 1 ∷ []) ∷ rule 0 (Cell 0 [] (Field 0 ∷ [])) (1 ∷ [])
-      ∷ rule 1 (Ref 0) [] ∷ [];
-}
-
-abbrev both_node : Node
-both_node = node 1 0 [] (field 0 (leaf (At 0)) (field 1 (leaf (At 0)) no_parts))
-
-both_runs : InLanguage two_rules (bare both_node)
-both_runs = (
-  0,
-  inl refl,
-  node_bare two_rules.rules 0 both_node (
-    rule 0 (Cell 0 [] (Field 0 ∷ Field 1 ∷ [])) (1 ∷ 1 ∷ []),
-    inl refl,
-    refl,
-    refl,
-    (
-      (rule 1 (Ref 0) [], inr (inr (inl refl)), refl, refl, refl),
-      ((rule 1 (Ref 0) [], inr (inr (inl refl)), refl, refl, refl), tt),
-    ),
-  ),
-)
-
-one_runs : InLanguage two_rules (bare (port_node 1 0 0))
-one_runs = (
-  0,
-  inl refl,
-  node_bare two_rules.rules 0 (port_node 1 0 0) (
-    rule 0 (Cell 0 [] (Field 0 ∷ [])) (1 ∷ []),
-    inr (inl refl),
-    refl,
-    refl,
-    ((rule 1 (Ref 0) [], inr (inr (inl refl)), refl, refl, refl), tt),
-  ),
-)
-
-output_covers_apart : (T : List BoxDef) → Breaks5 dll_face T (box_inside 0 (Some 0) (linker 1 ∷ two_rules ∷ []))
+output_covers_apart : (T : List BoxDef) → Breaks5 dll_face T (box_inside 0 (Some 0) (linker 1 ∷ two_ways ∷ []))
 output_covers_apart T =
     let a = cell_top 1 0 [] (field 0 (leaf (At 0)) (field 1 (leaf (At 0)) no_parts)) in
     let b = cell_top 1 0 [] (field 0 (leaf (At 0)) no_parts) in
-    covers_apart 1 1 two_rules (bare both_node) (bare (port_node 1 0 0)) (omega arith) refl both_runs one_runs
+    covers_apart 1 1 two_ways (bare both_node) (bare (port_node 1 0 0)) (omega arith) refl both_runs one_runs
     (rw a (inr (inl refl)))
     (λ i. (let j = rw b at i in elim j [ inl e ↦ omega (arith, e) | inr x ↦ x ]))
 
@@ -265,9 +219,6 @@ output_given_prev ts c =
 -- A Hook whose box has an input that refers to itself, `node(next=s1)` with `s1 = ref 0`: it is sound, and covers
 -- `next`
 
-abbrev own_face : BoxFace
-own_face = record { input = 0; output = None; gives_in = 0 ∷ []; gives_out = []; back = false }
-
 abbrev own_autos : List Automaton
 own_autos = port 0 0 ∷ []
 
@@ -296,7 +247,7 @@ own_filled =
     let l = leaf_top (At 0) in
     rw e (record { ends = ((0, refl, rw l refl), tt); order = ((tt, tt), tt); once = rw g (keep 0 empty) }, tt)
 
-own_fits : InsideFits dll_face own_face (bares own_nodes)
+own_fits : InsideFits dll_face ring_face (bares own_nodes)
 own_fits = record {
   tops = 0 ∷ [];
   are = structs_tops own_nodes;
@@ -305,7 +256,7 @@ own_fits = record {
   cells = (own_filled, refl);
 }
 
-own_reached : (T : List BoxDef) → IsReached T own_face own_autos
+own_reached : (T : List BoxDef) → IsReached T ring_face own_autos
 own_reached T d o c ports e n i =
     let w = own_is T d o in
     let f = w.1 in
@@ -318,13 +269,13 @@ own_reached T d o c ports e n i =
     here k (inr (inr x)) = absurd x
 
 abbrev own_box : BoxDef
-own_box = record { name = []; face = own_face; inside = record { autos = own_autos; vars = []; data_vars = [] } }
+own_box = record { name = []; face = ring_face; inside = record { autos = own_autos; vars = []; data_vars = [] } }
 
 own_sound : (T : List BoxDef) → SoundBox dll_face T own_box
 own_sound T = record {
   rules = (port_rules dll_face 0 0 (omega arith, refl, (refl, tt)), tt);
   full = ((bare (port_node 0 0 0), port_runs 0 0 0), tt);
-  fits = λ ts c. subst (λ (us : List Tree). InsideFits dll_face own_face us)
+  fits = λ ts c. subst (λ (us : List Tree). InsideFits dll_face ring_face us)
       (single_choice own_autos (bares own_nodes) ts (port_single 0 0, tt) (port_runs 0 0 0, tt) c) own_fits;
   covers = λ e. (let z : 1 ≡ 0 = ap (λ (l : List ℕ). length l) e in omega (arith, z));
   ports = (single_covers dll_face.boxes (port 0 0) (port_single 0 0), port_covers_some dll_face.boxes 0 0);
@@ -337,7 +288,7 @@ own_sound T = record {
   back = (refl, refl);
 }
 
-own_has_face : (T : List BoxDef) → IsFaceOf dll_face T (box_inside 0 None own_autos) own_face
+own_has_face : (T : List BoxDef) → IsFaceOf dll_face T (box_inside 0 None own_autos) ring_face
 own_has_face T = face_is dll_face T own_box (own_sound T)
 
 -- A Hook with a ring inside, of the input and one inner cell: `node(next=s1)` with `s1 = ref 1`, and

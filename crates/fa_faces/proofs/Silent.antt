@@ -1,8 +1,7 @@
 -- From a port whose trees give it nothing no other root is reached.
-use Rattle.std.proofs.Common.{◌≡◌, ◌⊎◌, inl, inr, ℕ, suc, Bool, true, false, true≢false, cond, ◌&&◌, nat_eq}
+use Rattle.std.proofs.Common.{◌≡◌, ◌⊎◌, inl, inr, ℕ, suc, Bool, true, false, true≢false, cond, ◌&&◌}
 use Rattle.std.proofs.Common.{List, [], ◌∷◌, ◌++◌, map, flat_map, length, Option, Some, None, slice_get, refl, sym, ap}
 use Rattle.std.proofs.Common.{subst, ◌∙◌, arith}
-use Rattle.std.proofs.lemmas.Bool.{eq-eqb}
 use Rattle.std.proofs.lemmas.Option.{none-some, same_Some}
 use Rattle.fore_base.specs.Lists.{IsIn, Every, Paired}
 use Rattle.fore_base.proofs.ListLemmas.{every_in, in_from_place}
@@ -25,9 +24,11 @@ use Rattle.fa_core.proofs.WayParts.{ways_out}
 use Rattle.fa_back.specs.Insides.{AlwaysReaches}
 use Rattle.fa_back.specs.Reached.{RootReached, by_var, by_tree, by_way, IsSignedBy}
 use Rattle.fa_back.proofs.ByMarks.{in_var_roots, signed_met}
+use Rattle.fa_back.proofs.Dressable.{some_choice}
 use Rattle.fa_box_rules.specs.Cells.{AreRight, IsRightUnder}
 use Rattle.fa_box_rules.specs.Rules.{Gives, root_fields, covered_at}
-use Rattle.fa_box_rules.proofs.SoundBoxes.{some_choice, nil_only}
+use Rattle.fa_back.proofs.RootMarks.{in_to_root}
+use Rattle.fa_box_rules.proofs.SoundBoxes.{nil_only}
 
 -- Lists that are empty.
 
@@ -45,17 +46,6 @@ none_of : {X : Type 0} (f : X → List ℕ) (xs : List X) (x : X) → flat_map f
 none_of f [] x e i = absurd i
 none_of f (y ∷ ys) x e (inl q) = let z = none_left (f y) (flat_map f ys) e in rw q z
 none_of f (y ∷ ys) x e (inr i) = none_of f ys x (none_right (f y) (flat_map f ys) e) i
-
-in_to : (r : ℕ) (ws : List Way) (w : Way) → IsIn w ws → w.root ≡ r → IsIn w (to_root r ws)
-in_to r [] w i e = absurd i
-in_to r (v ∷ ws) w (inl q) e =
-    let t : nat_eq r v.root ≡ true = eq-eqb r v.root (sym e ∙ ap (λ (z : Way). z.root) q) in
-    subst (λ (b : Bool). IsIn w (cond b (v ∷ to_root r ws) (to_root r ws))) (sym t) (inl q)
-in_to r (v ∷ ws) w (inr i) e = here (nat_eq r v.root) (in_to r ws w i e)
-  where
-    here : (b : Bool) → IsIn w (to_root r ws) → IsIn w (cond b (v ∷ to_root r ws) (to_root r ws))
-    here true k = inr k
-    here false k = k
 
 and_none : (b : Bool) → (b && false) ≡ false
 and_none true = refl
@@ -115,7 +105,7 @@ module _ (bs : List BoxFace) (giving : Every IsGiving bs) where
         let p : w.root ≡ r = q ∙ stays i m in
         let all = none_of (λ (u : Tree). flat_map (λ (v : Way). given bs v.steps) (to_root r (ways u))) ts t silent
         (in_from_place ts j t e) in
-        let n = none_of (λ (v : Way). given bs v.steps) (to_root r (ways t)) w all (in_to r (ways t) w h p) in
+        let n = none_of (λ (v : Way). given bs v.steps) (to_root r (ways t)) w all (in_to_root r (ways t) w h p) in
         elim z [
           | inl b ↦ absurd (back_silent w.steps n b.1)
           | inr l ↦ absurd (led_silent w.steps n k l)

@@ -11,6 +11,7 @@ use Rattle.ta_core.specs.Renumbered.{renumbered}
 use Rattle.ta_core.specs.declared.auto.Rule.{Rule}
 use Rattle.ta_core.specs.declared.tree.Tree.{Tree, out-Tree}
 use Rattle.ta_core.proofs.Descending.{passing_each, passing_run}
+use Rattle.ta_core.proofs.Runs.{passed_tree}
 use Rattle.ta_core.proofs.Shifting.{in_sub}
 use Rattle.fa_core.specs.declared.boxes.BoxDef.{BoxDef}
 use Rattle.fa_core.specs.declared.faces.Face.{Face}
@@ -21,15 +22,6 @@ use Rattle.fa_core.specs.Member.{TreesOf}
 use Rattle.fa_faces.specs.inner.Trimmed.{IsTrimOf, AreTrimOf}
 
 -- One automaton.
-
-mutual
-  pub passed : (rules : List Rule) {q p : ℕ} {t : Tree} → PassesBy rules q p t → HasTree rules q
-  passed rules {q} {p} {t} (at_top e r) = (t, subst (λ (x : ℕ). RunOf rules x t) e r)
-  passed rules (below r i e s o) = passed_one rules o
-
-  passed_one : (rules : List Rule) {q : ℕ} {ps : List ℕ} {ts : List Tree} → OnePasses rules q ps ts → HasTree rules q
-  passed_one rules (this_one p k) = passed rules p
-  passed_one rules (later_one r o) = passed_one rules o
 
 module _ (a b : Automaton) (h : IsTrimOf a b) where
   abbrev of : ℕ → ℕ
@@ -51,7 +43,7 @@ module _ (a b : Automaton) (h : IsTrimOf a b) where
   children_low r i = (every_in (IsRankedRule b.states) b.rules r h.ranked.1 i).1
 
   has_tree : (q : ℕ) → q < b.states → HasTree a.rules (of q)
-  has_tree q l = let p = h.trim q l in let t = passed b.rules p.3 in (t.0, (h.stands.runs q t.0 l).0 t.1)
+  has_tree q l = let p = h.trim q l in let t = passed_tree p.3 in (t.0, (h.stands.runs q t.0 l).0 t.1)
 
   -- a state whose number in a is a root state is one in b
   root_from : (q : ℕ) → q < b.states → IsIn (of q) a.roots → IsIn q b.roots
