@@ -18,6 +18,7 @@ use Rattle.fa_core.specs.declared.boxes.BoxDef.{BoxDef}
 use Rattle.fa_core.specs.Dressed.{Node, node, number, Fact, with_ports, roots_of}
 use Rattle.fa_core.specs.Filled.{Choice, TopsAre, IsTopped}
 use Rattle.fa_core.specs.Member.{TreesOf, InsidesOf, inside_of, bare}
+use Rattle.fa_back.proofs.TablesKnown.{SlotUses, SymbolUses, RulesUse}
 use Rattle.fa_core.proofs.Dressing.{cell_is_no_leaf, leaf_top}
 use Rattle.fa_sample.specs.inner.Dressing.{Making, Leaf, Under, Insides, made, root_made, roots_made, port_made}
 use Rattle.fa_sample.specs.inner.Dressing.{ports_made, root_values, roots_begun, forest_made, insides_made}
@@ -233,50 +234,34 @@ AreChoices (d ∷ defs) [] = ⊥
 AreChoices (d ∷ defs) (ts ∷ boxes) = Choice d.inside.autos ts × ((tops : List ℕ) × TopsAre ts tops)
     × AreChoices defs boxes
 
--- the slots that a symbol may have over the first boxes
-abbrev pub SlotBelow : ℕ → Slot → Type 0
-SlotBelow n (Field f) = Unit {0}
-SlotBelow n (Link b) = b < n
-SlotBelow n (Hook b) = b < n
-
-abbrev pub SymbolBelow : ℕ → Symbol → Type 0
-SymbolBelow n NullSymbol = Unit {0}
-SymbolBelow n UninitSymbol = Unit {0}
-SymbolBelow n DanglingSymbol = Unit {0}
-SymbolBelow n (Ref r) = Unit {0}
-SymbolBelow n (CellSymbol s ds ss) = Every (SlotBelow n) ss
-
-abbrev pub RulesBelow : ℕ → Automaton → Type 0
-RulesBelow n a = Every (λ (r : Rule). SymbolBelow n r.symbol) a.rules
-
 -- each box uses lower boxes alone
 abbrev pub UseLower : ℕ → List BoxDef → Type 0
 UseLower n [] = Unit {0}
-UseLower n (d ∷ defs) = Every IsRanked d.inside.autos × Every (RulesBelow n) d.inside.autos × UseLower (suc n) defs
+UseLower n (d ∷ defs) = Every IsRanked d.inside.autos × Every (RulesUse n) d.inside.autos × UseLower (suc n) defs
 
 box_at : (n : ℕ) (defs : List BoxDef) (boxes : List (List Tree)) → UseLower n defs → AreChoices defs boxes → (b : ℕ)
     → b < length defs → (at : ℕ) → at ≡ n + b
-    → (autos : List Automaton) × (inside_of defs b ≡ Some autos) × Every IsRanked autos × Every (RulesBelow at) autos
+    → (autos : List Automaton) × (inside_of defs b ≡ Some autos) × Every IsRanked autos × Every (RulesUse at) autos
     × Choice autos (slice_index_or boxes b []) × ((tops : List ℕ) × TopsAre (slice_index_or boxes b []) tops)
 box_at n [] boxes u c b l at e = absurd (omega (arith, l))
 box_at n (d ∷ defs) [] u c b l at e = absurd c
 box_at n (d ∷ defs) (ts ∷ boxes) u c zero l at e =
     let z : n ≡ at = omega (arith, e) in
-    (d.inside.autos, refl, u.0, subst (λ (k : ℕ). Every (RulesBelow k) d.inside.autos) z u.1, c.0, c.1)
+    (d.inside.autos, refl, u.0, subst (λ (k : ℕ). Every (RulesUse k) d.inside.autos) z u.1, c.0, c.1)
 box_at n (d ∷ defs) (ts ∷ boxes) u c (suc b) l at e =
     let z : suc b < suc (length defs) = l in
     box_at (suc n) defs boxes u.2 c.2 b (omega (arith, z)) at (omega (arith, e))
 
 module _ (T : List BoxDef) (boxes : List (List Tree)) (u : UseLower 0 T) (c : AreChoices T boxes) where
   slots_inside : (n : ℕ) → ((b : ℕ) → b < n → IsInside T (insides_made boxes n) b) → (ss : List Slot)
-      → (m : ℕ) → m ≤ n → Every (SlotBelow m) ss → Every (SlotInside T (insides_made boxes n)) ss
+      → (m : ℕ) → m ≤ n → Every (SlotUses m) ss → Every (SlotInside T (insides_made boxes n)) ss
   slots_inside n h [] m l k = tt
   slots_inside n h (Field f ∷ ss) m l k = (tt, slots_inside n h ss m l k.1)
   slots_inside n h (Link b ∷ ss) m l k = (h b (let a = k.0 in omega (arith, a, l)), slots_inside n h ss m l k.1)
   slots_inside n h (Hook b ∷ ss) m l k = (h b (let a = k.0 in omega (arith, a, l)), slots_inside n h ss m l k.1)
 
   symbol_inside : (n : ℕ) → ((b : ℕ) → b < n → IsInside T (insides_made boxes n) b) → (m : ℕ) → m ≤ n → (y : Symbol)
-      → SymbolBelow m y → SymbolInside T (insides_made boxes n) y
+      → SymbolUses m y → SymbolInside T (insides_made boxes n) y
   symbol_inside n h m l NullSymbol k = tt
   symbol_inside n h m l UninitSymbol k = tt
   symbol_inside n h m l DanglingSymbol k = tt
@@ -284,11 +269,11 @@ module _ (T : List BoxDef) (boxes : List (List Tree)) (u : UseLower 0 T) (c : Ar
   symbol_inside n h m l (CellSymbol s ds ss) k = slots_inside n h ss m l k
 
   pub rules_inside : (n : ℕ) → ((b : ℕ) → b < n → IsInside T (insides_made boxes n) b) → (m : ℕ) → m ≤ n
-      → (autos : List Automaton) → Every (RulesBelow m) autos → Every (RulesInside T (insides_made boxes n)) autos
+      → (autos : List Automaton) → Every (RulesUse m) autos → Every (RulesInside T (insides_made boxes n)) autos
   rules_inside n h m l [] k = tt
   rules_inside n h m l (a ∷ autos) k = (rules a.rules k.0, rules_inside n h m l autos k.1)
     where
-      rules : (rs : List Rule) → Every (λ (r : Rule). SymbolBelow m r.symbol) rs
+      rules : (rs : List Rule) → Every (λ (r : Rule). SymbolUses m r.symbol) rs
           → Every (λ (r : Rule). SymbolInside T (insides_made boxes n) r.symbol) rs
       rules [] k = tt
       rules (r ∷ rs) k = (symbol_inside n h m l r.symbol k.0, rules rs k.1)

@@ -1,28 +1,22 @@
 -- What is sampled of a sound forest is a store for which it stands.
-use Rattle.std.proofs.Common.{◌≡◌, ◌⊎◌, inl, inr, ℕ, zero, suc, ◌<◌, ◌+◌, List, [], ◌∷◌, ◌++◌, length, Some, None}
-use Rattle.std.proofs.Common.{Option, slice_get, take, length-append, refl, ap, subst, ◌∙◌, arith}
+use Rattle.std.proofs.Common.{◌≡◌, ℕ, zero, suc, ◌<◌, ◌+◌, List, [], ◌∷◌, ◌++◌, length, Some}
+use Rattle.std.proofs.Common.{slice_get, take, length-append, refl, ap, subst, ◌∙◌, arith}
 use Rattle.std.proofs.lemmas.Option.{none-some, same_Some}
-use Rattle.fore_base.specs.Lists.{IsIn, Every}
+use Rattle.fore_base.specs.Lists.{Every}
 use Rattle.fore_base.specs.declared.shape.Shapes.{Shapes}
 use Rattle.fore_base.specs.declared.store.Store.{Store}
 use Rattle.fore_base.specs.declared.store.Value.{Value}
-use Rattle.ta_core.specs.Auto.{Automaton, IsRanked}
-use Rattle.ta_core.specs.declared.auto.Rule.{Rule}
-use Rattle.ta_core.specs.declared.symbol.Slot.{Slot}
-use Rattle.ta_core.specs.declared.symbol.Slot.TheVariants.{Field, Link, Hook}
-use Rattle.ta_core.specs.declared.symbol.Symbol.{Symbol}
-use Rattle.ta_core.specs.declared.symbol.Symbol.TheVariants.{Null, Uninit, Dangling, Ref, Cell}
+use Rattle.ta_core.specs.Auto.{IsRanked}
 use Rattle.ta_core.specs.declared.tree.Tree.{Tree}
 use Rattle.fa_core.specs.declared.boxes.BoxDef.{BoxDef}
-use Rattle.fa_core.specs.declared.faces.BoxFace.{BoxFace}
 use Rattle.fa_core.specs.declared.faces.Face.{Face}
 use Rattle.fa_core.specs.declared.forest.Forest.{Forest}
-use Rattle.fa_core.specs.Boxes.{Boxes, IsBoxTable, IsTableOf, AreSoundOver, faces_of, PortSymbolFits}
-use Rattle.fa_core.specs.Boxes.{InsideRulesFit, IsChild}
+use Rattle.fa_core.specs.Boxes.{Boxes, IsBoxTable, IsTableOf, AreSoundOver}
 use Rattle.fa_core.specs.Dressed.{Nodes, roots_of}
-use Rattle.fa_core.specs.Filled.{Choice, HasSome, HasOutput, HasNoOutput, SlotFits, SymbolFits, RulesFit, IsSound}
+use Rattle.fa_core.specs.Filled.{Choice, HasSome, IsSound}
 use Rattle.fa_core.specs.Member.{Stands, StandsBy}
-use Rattle.fa_core.proofs.Counts.{in_or_out}
+use Rattle.fa_back.proofs.Dressable.{some_choice}
+use Rattle.fa_back.proofs.TablesKnown.{AllUse, box_uses, faces_long, forest_uses}
 use Rattle.fa_back.specs.Insides.{AreRankedInsides}
 use Rattle.fa_facts.proofs.FullFacts.{fields_full}
 use Rattle.fa_facts.proofs.NamedCells.{facts_named, root_values_named}
@@ -31,86 +25,10 @@ use Rattle.fa_sample.specs.inner.Emitted.{forest_out}
 use Rattle.fa_sample.specs.inner.Picked.{ArePicked, IsPickedAt}
 use Rattle.fa_sample.specs.inner.Sampled.{store_made, store_sampled}
 use Rattle.fa_sample.specs.inner.Written.{written}
-use Rattle.fa_sample.proofs.Forests.{AreChoices, SlotBelow, SymbolBelow, RulesBelow, UseLower, ports_values}
+use Rattle.fa_sample.proofs.Forests.{AreChoices, UseLower, ports_values}
 use Rattle.fa_sample.proofs.Forests.{rules_inside}
 use Rattle.fa_sample.proofs.Forests.{boxes_inside, forest_dressed}
 use Rattle.fa_sample.proofs.Standing.{stands}
-
--- Slots that fit a face are of its boxes.
-
-output_there : (bs : List BoxFace) (b : ℕ) → HasOutput (slice_get bs b) → b < length bs
-output_there [] b h = none_there (slice_get [] b) h refl
-  where
-    none_there : (o : Option BoxFace) → HasOutput o → slice_get [] b ≡ o → b < 0
-    none_there None h e = absurd h
-    none_there (Some x) h e = absurd (none-some x e)
-output_there (x ∷ bs) zero h = omega arith
-output_there (x ∷ bs) (suc b) h = let l = output_there bs b h in omega (arith, l)
-
-no_output_there : (bs : List BoxFace) (b : ℕ) → HasNoOutput (slice_get bs b) → b < length bs
-no_output_there [] b h = none_there (slice_get [] b) h refl
-  where
-    none_there : (o : Option BoxFace) → HasNoOutput o → slice_get [] b ≡ o → b < 0
-    none_there None h e = absurd h
-    none_there (Some x) h e = absurd (none-some x e)
-no_output_there (x ∷ bs) zero h = omega arith
-no_output_there (x ∷ bs) (suc b) h = let l = no_output_there bs b h in omega (arith, l)
-
-faces_long : (defs : List BoxDef) → length (faces_of defs) ≡ length defs
-faces_long [] = refl
-faces_long (d ∷ defs) = ap suc (faces_long defs)
-
-module _ (face : Face) (n : ℕ) (many : length face.boxes ≡ n) where
-  slots_below : (s : ℕ) (ss : List Slot) → Every (SlotFits face s) ss → Every (SlotBelow n) ss
-  slots_below s [] h = tt
-  slots_below s (Field f ∷ ss) h = (tt, slots_below s ss h.1)
-  slots_below s (Link b ∷ ss) h =
-      (let l = output_there face.boxes b h.0 in omega (arith, l, many), slots_below s ss h.1)
-  slots_below s (Hook b ∷ ss) h =
-      (let l = no_output_there face.boxes b h.0 in omega (arith, l, many), slots_below s ss h.1)
-
-  symbol_below : (y : Symbol) → SymbolFits face y → SymbolBelow n y
-  symbol_below Null h = tt
-  symbol_below Uninit h = tt
-  symbol_below Dangling h = tt
-  symbol_below (Ref r) h = tt
-  symbol_below (Cell s ds ss) h = slots_below s ss h.3
-
-  port_below : (y : Symbol) → PortSymbolFits face y → SymbolBelow n y
-  port_below Null h = tt
-  port_below Uninit h = tt
-  port_below Dangling h = tt
-  port_below (Ref r) h = tt
-  port_below (Cell s ds ss) h = slots_below s ss h.2
-
-  all_below : (rs : List Rule) → Every (λ (r : Rule). SymbolFits face r.symbol) rs
-      → Every (λ (r : Rule). SymbolBelow n r.symbol) rs
-  all_below [] h = tt
-  all_below (r ∷ rs) h = (symbol_below r.symbol h.0, all_below rs h.1)
-
-  autos_below : (autos : List Automaton) → Every (RulesFit face) autos → Every (RulesBelow n) autos
-  autos_below [] h = tt
-  autos_below (a ∷ autos) h = (all_below a.rules h.0, autos_below autos h.1)
-
-  port_rules : (a : Automaton) → (rs : List Rule)
-      → Every (λ (r : Rule). IsIn r.state a.roots → PortSymbolFits face r.symbol) rs
-      → Every (λ (r : Rule). (IsIn r.state a.roots → ⊥) ⊎ IsChild a r.state → SymbolFits face r.symbol) rs
-      → Every (λ (r : Rule). SymbolBelow n r.symbol) rs
-  port_rules a [] h k = tt
-  port_rules a (r ∷ rs) h k = (
-    elim (in_or_out r.state a.roots) [
-      | inl i ↦ port_below r.symbol (h.0 i)
-      | inr o ↦ symbol_below r.symbol (k.0 (inl o))
-    ],
-    port_rules a rs h.1 k.1,
-  )
-
-  insides_below : (ports : List (List ℕ)) (autos : List Automaton) → InsideRulesFit face ports autos
-      → Every (RulesBelow n) autos
-  insides_below ports [] h = tt
-  insides_below [] (a ∷ autos) h = (all_below a.rules h.0, insides_below [] autos h.1)
-  insides_below (p ∷ ports) (a ∷ autos) h =
-      (port_rules a a.rules h.0.tops h.0.inner, insides_below ports autos h.1)
 
 -- Tables.
 
@@ -121,8 +39,7 @@ use_lower shapes before (d ∷ defs) h r =
     let e : length (before ++ d ∷ []) ≡ suc (length before) =
     (let z = length-append before (d ∷ []) in omega (arith, z)) in (
       r.0,
-      insides_below (record { shapes = shapes; boxes = faces_of before }) (length before) (faces_long before) _
-          d.inside.autos h.0.rules,
+      box_uses shapes before d h.0,
       subst (λ (n : ℕ). UseLower n defs) e (use_lower shapes (before ++ d ∷ []) defs h.1 r.1),
     )
 
@@ -145,7 +62,7 @@ sampled t table ranked F sound r boxes p ts c =
     let k = are_choices t.face.shapes [] t.defs boxes table.sound p in
     let n : length t.face.boxes ≡ length t.defs = ap length table.faces ∙ faces_long t.defs in
     let filled = sound.well_formed.filled in
-    let low = autos_below t.face (length t.defs) n F.autos filled.rules in
+    let low = subst (λ (m : ℕ). AllUse m F.autos) n (forest_uses t.face F.autos filled.rules) in
     let inside = rules_inside t.defs boxes u k (length t.defs)
     (boxes_inside t.defs boxes u k (length t.defs) (omega arith)) (length t.defs) (omega arith) F.autos low in
     let tops = filled.trees ts c in
@@ -167,15 +84,11 @@ sampled t table ranked F sound r boxes p ts c =
 
 -- Each forest has trees, and so a member.
 
-trees_of : (autos : List Automaton) → Every HasSome autos → (ts : List Tree) × Choice autos ts
-trees_of [] h = ([], tt)
-trees_of (a ∷ autos) h = let r = trees_of autos h.1 in (h.0.0 ∷ r.0, (h.0.1, r.1))
-
 insides_of : (shapes : Shapes) (before defs : List BoxDef) → AreSoundOver shapes before defs
     → (boxes : List (List Tree)) × ArePicked defs boxes
 insides_of shapes before [] h = ([], tt)
 insides_of shapes before (d ∷ defs) h =
-    let k = trees_of d.inside.autos h.0.full in
+    let k = some_choice d.inside.autos h.0.full in
     let r = insides_of shapes (before ++ d ∷ []) defs h.1 in
     (k.0 ∷ r.0, (k.1, r.1))
 
@@ -184,7 +97,7 @@ pub has_member : (face : Face) (T : List BoxDef) (F : Forest) → IsTableOf face
 has_member face T F table ranked sound r =
     let t : Boxes = record { face = face; defs = T } in
     let boxes = insides_of face.shapes [] T table.sound in
-    let ts = trees_of F.autos sound.full in (
+    let ts = some_choice F.autos sound.full in (
       store_sampled boxes.0 (length T) F ts.0,
       sampled (record { face = face; defs = T }) table ranked F sound r boxes.0 boxes.1 ts.0 ts.1,
     )

@@ -126,7 +126,7 @@ numbered_rises : (j k : ℕ) (xs : List ℕ) → j < k → RisesFrom j (numbered
 numbered_rises j k [] l = tt
 numbered_rises j k (x ∷ xs) l = (l, numbered_rises k (suc k) xs (omega arith))
 
-numbered_rising : (k : ℕ) (xs : List ℕ) → IsRising (numbered k xs)
+pub numbered_rising : (k : ℕ) (xs : List ℕ) → IsRising (numbered k xs)
 numbered_rising k [] = tt
 numbered_rising k (x ∷ xs) = numbered_rises k (suc k) xs (omega arith)
 
