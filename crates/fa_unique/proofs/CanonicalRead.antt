@@ -1,8 +1,7 @@
 -- What the definition of canonical forests says of a dressed forest without box edges that stands for a store.
-use Rattle.std.proofs.Common.{◌≡◌, ◌⊎◌, inl, inr, ℕ, zero, suc, ◌<◌, true≢false, List, [], ◌∷◌}
+use Rattle.std.proofs.Common.{◌≡◌, ◌⊎◌, inl, inr, ℕ, true≢false, List, [], ◌∷◌}
 use Rattle.std.proofs.Common.{◌++◌}
 use Rattle.std.proofs.Common.{refl, sym, ap, subst, ◌∙◌, Some, arith}
-use Rattle.std.proofs.lemmas.Option.{none-some}
 use Rattle.fore_base.specs.Lists.{IsIn, Every, IsDistinct}
 use Rattle.fore_base.specs.declared.store.Datum.{Datum}
 use Rattle.fore_base.specs.declared.store.Store.{Store}
@@ -22,9 +21,8 @@ use Rattle.fa_core.specs.Boxless.{HasNoBoxes}
 use Rattle.fa_core.specs.Canonical.{IsCanonical, IsShared, IsRootKind, IsKnot, LeadsBack, RefersTo, references}
 use Rattle.fa_core.specs.Canonical.{at_fields}
 use Rattle.fa_core.specs.Canonical.{field_trees}
-use Rattle.fa_core.specs.Choices.{bares, count, all_numbers}
-use Rattle.fa_core.specs.Dressed.{Node, Parts, End, Nodes, node, no_parts, field, link, hook, under, leaf, no_nodes}
-use Rattle.fa_core.specs.Dressed.{more}
+use Rattle.fa_core.specs.Choices.{bares, all_numbers}
+use Rattle.fa_core.specs.Dressed.{Node, Parts, End, Nodes, node, no_parts, field, link, hook, under, leaf}
 use Rattle.fa_core.specs.Dressed.{facts, end_value, nth_value, roots_of, number, refs, all_refs}
 use Rattle.fa_core.specs.Filled.{Choice}
 use Rattle.fa_core.specs.Member.{StandsBy, bare, bare_parts, bare_end, slots_of}
@@ -44,6 +42,7 @@ use Rattle.fa_back.specs.inner.Hops.{forest_own, forest_edges}
 use Rattle.fa_back.proofs.Apart.{forest_apart, forest_numbers}
 use Rattle.fa_back.proofs.Apart.{inner as inside_facts_of}
 use Rattle.fa_back.proofs.FactParts.{number_of, node_root, var_target, target_var}
+use Rattle.fa_back.proofs.InsideLaws.{node_there}
 use Rattle.fa_back.proofs.MetHops.{tree_at, at_tree}
 use Rattle.fa_back.proofs.StoreLaws.{differ}
 use Rattle.fa_unique.proofs.CellsWithin.{HasField, parts_of}
@@ -104,12 +103,6 @@ refers_refs x r h = subst (λ (z : List ℕ). IsIn r z) (tree_roots x) h
 pub refs_refer : (x : Node) (r : ℕ) → IsIn r (refs x) → RefersTo (bare x) r
 refs_refer x r h = subst (λ (z : List ℕ). IsIn r z) (sym (tree_roots x)) h
 
--- a place with a tree is in range
-pub node_below : (d : Nodes) (r : ℕ) (x : Node) → node_at d r ≡ Some x → r < count d
-node_below no_nodes r x e = absurd (none-some x e)
-node_below (more n ns) zero x e = omega arith
-node_below (more n ns) (suc r) x e = let l = node_below ns r x e in omega (arith, l)
-
 -- where no rule has a box edge, no way leads back or gives a field
 pub ways_plain : (bs : List BoxFace) (autos : List Automaton) (ts : List Tree) → Every HasNoBoxes autos
     → Choice autos ts → Every (λ (t : Tree). Every (IsPlainWay bs) (ways t)) ts
@@ -152,7 +145,7 @@ module _ (face : Face) (F : Forest) (can : IsCanonical face F) (plain : Every Ha
   one_root : (r : ℕ) (x : Node) → node_at d r ≡ Some x → (k : ℕ) → nth_value (roots_of d) k ≡ Cell (number x) → k ≡ r
   one_root r x e k q =
       let y = root_top d k (number x) q in
-      roots_apart d all_differ k r (node_below d k y.0 y.1) (node_below d r x e)
+      roots_apart d all_differ k r (node_there d k y.0 y.1) (node_there d r x e)
       (ap number_of (q ∙ sym (node_root d r x e)))
 
   -- as many pointers name the cell of a root as there are references to the root
@@ -214,7 +207,7 @@ module _ (face : Face) (F : Forest) (can : IsCanonical face F) (plain : Every Ha
     named = h.vars;
     kinds = λ r x e. kind r x e
         (can.kinds (bares d) choice r
-        (let l = node_below d r x e in let n = bares_length d in omega (arith, l, n)));
+        (let l = node_there d r x e in let n = bares_length d in omega (arith, l, n)));
     untied = λ r f k p y e m i j q. can.untied (bares d) choice r (bare p) (bare y) (main_shared r p e m)
         (at_tree d r p e)
         (fields_tree p f (under y) i) (cell_no_ref y r)

@@ -9,20 +9,12 @@ use Rattle.fa_core.specs.Choices.{numbers_of, all_numbers}
 use Rattle.fa_core.specs.Dressed.{Nodes, node, no_nodes, more, Fact, Head, Points, facts, nth_value, roots_of}
 use Rattle.fa_core.specs.Dressed.{all_refs}
 use Rattle.fa_core.specs.Rearranged.{often}
-use Rattle.fa_core.proofs.Counts.{often_same, often_both, often_out, in_or_out}
+use Rattle.fa_core.proofs.Counts.{often_more, often_same, often_both, often_out, in_or_out}
 use Rattle.fa_core.proofs.PlainNodes.{NoEdgesIn}
 use Rattle.fa_back.proofs.FactParts.{IsPointer, fact_cell, fact_value}
 use Rattle.fa_unique.proofs.Pointers.{pointed, named_by, all_inner, forest_pointed, named_root}
 
 -- Counts.
-
--- one item more makes a count no less
-pub often_more : (n x : ℕ) (xs : List ℕ) → often n xs ≤ often n (x ∷ xs)
-often_more n x xs = here (nat_eq n x)
-  where
-    here : (b : Bool) → often n xs ≤ cond b (often n xs + 1) (often n xs)
-    here true = omega arith
-    here false = omega arith
 
 -- what is counted is there
 counted_in : (n : ℕ) (xs : List ℕ) → 1 ≤ often n xs → IsIn n xs

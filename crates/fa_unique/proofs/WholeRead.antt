@@ -1,6 +1,6 @@
 -- Without box edges each cell of a well-formed forest has the fields of its struct in order, and its references are to
 -- roots that are there; and the order of the roots is that of a walk along references alone.
-use Rattle.std.proofs.Common.{◌≡◌, inl, inr, ℕ, zero, suc, ◌<◌, List, [], ◌∷◌, ◌++◌, map, flat_map, length, refl, sym}
+use Rattle.std.proofs.Common.{◌≡◌, inl, inr, ℕ, zero, suc, List, [], ◌∷◌, ◌++◌, map, flat_map, length, refl, sym}
 use Rattle.std.proofs.Common.{ap, ap₂, subst, ◌∙◌, arith}
 use Rattle.fore_base.specs.Lists.{Every, IsDistinct}
 use Rattle.fore_base.proofs.ListLemmas.{every_parts}
@@ -15,10 +15,9 @@ use Rattle.fa_core.specs.Dressed.{Node, Parts, End, Nodes, node, no_parts, field
 use Rattle.fa_core.specs.Dressed.{more}
 use Rattle.fa_core.specs.Dressed.{value_in, roots_of, refs, refs_of, end_refs, leaf_refs}
 use Rattle.fa_core.specs.Filled.{Spot, spots, IsFilledSpot, TreesFilled, TopsAre, IsRoot, covers, least, fields_of}
-use Rattle.fa_core.specs.Filled.{numbered}
 use Rattle.fa_core.specs.Filled.{given_at}
 use Rattle.fa_core.specs.Member.{bare, slots_of}
-use Rattle.fa_core.specs.Rearranged.{Rearranged, RisesFrom, IsRising}
+use Rattle.fa_core.specs.Rearranged.{Rearranged, IsRising}
 use Rattle.fa_core.specs.References.{AllBelow}
 use Rattle.fa_core.specs.Ways.{ways, to_root, once}
 use Rattle.fa_core.proofs.Counts.{below_left, below_right}
@@ -27,6 +26,8 @@ use Rattle.fa_core.proofs.PlainNodes.{NoEdges, NoEdgesOf, NoEdgesAt, NoEdgesIn}
 use Rattle.fa_core.proofs.PlainWays.{IsPlainWay, plain_to, none_given}
 use Rattle.fa_core.proofs.SameKeys.{same_by_keys}
 use Rattle.fa_core.proofs.WaysOf.{tree_roots}
+use Rattle.fa_back.proofs.LinksFit.{tops_long}
+use Rattle.fa_sample.proofs.Standing.{numbered_rising}
 use Rattle.fa_unique.proofs.AlikeTrees.{field_numbers, IsWhole}
 use Rattle.fa_unique.proofs.CellsWithin.{parts_of, IsSub, IsSubOf, IsSubEnd, IsSubIn}
 use Rattle.fa_unique.proofs.Heads.{shape_of}
@@ -60,15 +61,6 @@ module _ (m : ℕ) where
 map_id : (xs : List ℕ) → map (λ n. n) xs ≡ xs
 map_id [] = refl
 map_id (x ∷ xs) = ap (λ (z : List ℕ). x ∷ z) (map_id xs)
-
--- the fields of a struct rise
-numbered_rise : (k j : ℕ) (xs : List ℕ) → k < j → RisesFrom k (numbered j xs)
-numbered_rise k j [] l = tt
-numbered_rise k j (x ∷ xs) l = (l, numbered_rise j (suc j) xs (omega arith))
-
-numbered_rising : (k : ℕ) (xs : List ℕ) → IsRising (numbered k xs)
-numbered_rising k [] = tt
-numbered_rising k (x ∷ xs) = numbered_rise k (suc k) xs (omega arith)
 
 module _ (face : Face) (tops : List ℕ) where
   covered : (ps : Parts) → NoEdgesOf ps → flat_map (covers face.boxes) (slots_of ps) ≡ field_numbers ps
@@ -144,12 +136,6 @@ nothing_given bs [] p r = refl
 nothing_given bs (t ∷ ts) p r =
     ap₂ (λ (x y : List ℕ). x ++ y) (none_given bs (to_root r (ways t)) (plain_to bs r (ways t) p.0))
     (nothing_given bs ts p.1 r)
-
-pub tops_long : (d : Nodes) (tops : List ℕ) → TopsAre (bares d) tops → length tops ≡ count d
-tops_long no_nodes [] h = refl
-tops_long no_nodes (s ∷ tops) h = absurd h
-tops_long (more n ns) [] h = absurd h
-tops_long (more n ns) (s ∷ tops) h = ap (λ k. suc k) (tops_long ns tops h.1)
 
 -- each cell has the fields of its struct, and refers to roots that are there
 pub whole : (face : Face) (tops : List ℕ) (d : Nodes) → NoEdgesIn d → TopsAre (bares d) tops
