@@ -21,6 +21,7 @@ use Rattle.fa_core.specs.Dressed.{Nodes, no_nodes, more, cells, value_in, roots_
 use Rattle.fa_core.specs.Filled.{Choice, ChoiceFilled, IsRoot, IsFilled, IsSound, HasSome, HasSignatures, DatumFits}
 use Rattle.fa_core.specs.Filled.{RulesFit, SymbolFits}
 use Rattle.fa_core.specs.Member.{TreesOf, Regroups, RegroupsInto}
+use Rattle.fa_core.proofs.Dressing.{choice_of}
 use Rattle.fa_core.proofs.Rearranging.{same}
 use Rattle.fa_core.proofs.Regrouped.{members_regrouped, members_split}
 use Rattle.fa_sound.specs.Soundness.{SoundForest}
@@ -32,13 +33,6 @@ use Rattle.fa_signatures.proofs.PieceLists.{piece_plain}
 use Rattle.fa_signatures.proofs.ProductItems.{IsOfEach, in_product, product_in, apart_map, apart_product}
 
 -- Dressed forests xs choices of trees
-
--- the trees of a dressed forest are a choice
-choice_of : (T : List BoxDef) (autos : List Automaton) (d : Nodes) → TreesOf T autos d → Choice autos (bares d)
-choice_of T [] no_nodes h = tt
-choice_of T [] (more n ns) h = absurd h
-choice_of T (a ∷ autos) no_nodes h = absurd h
-choice_of T (a ∷ autos) (more n ns) h = (h.0, choice_of T autos ns h.2)
 
 -- where its trees are a choice from other components, it is a dressed forest of these
 trees_by : (T : List BoxDef) (xs ys : List Automaton) (d : Nodes) → TreesOf T xs d → Choice ys (bares d)

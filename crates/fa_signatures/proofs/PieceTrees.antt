@@ -3,11 +3,11 @@ use Rattle.std.proofs.Common.{◌≡◌, ◌↔◌, ℕ, ◌<◌, List, Some, sl
 use Rattle.fore_base.specs.Lists.{IsIn, Every, IsDistinct}
 use Rattle.fore_base.proofs.ListLemmas.{every_in, in_every, in_map, in_from_place}
 use Rattle.ta_core.specs.Auto.{Automaton, IsRanked, IsRankedRule}
-use Rattle.ta_core.specs.Language.{RunOf, run, InLanguage, IsBarren, HasSameLanguage, HasTree, PassesBy, at_top, below}
-use Rattle.ta_core.specs.Language.{OnePasses, this_one, later_one, IsTrim}
+use Rattle.ta_core.specs.Language.{RunOf, run, InLanguage, IsBarren, HasSameLanguage, IsTrim}
 use Rattle.ta_core.specs.Renumbered.{StandsFor, renumbered}
 use Rattle.ta_core.specs.declared.auto.Rule.{Rule}
 use Rattle.ta_core.specs.declared.tree.Tree.{Tree}
+use Rattle.ta_core.proofs.Runs.{passed_tree}
 use Rattle.ta_core.proofs.Shifting.{in_sub}
 use Rattle.fa_core.specs.declared.faces.BoxFace.{BoxFace}
 use Rattle.fa_core.specs.declared.signature.RefMark.{RefMark}
@@ -19,16 +19,6 @@ use Rattle.fa_signatures.specs.inner.CutPairs.{Pair, seen_over, ArePairRules, Is
 use Rattle.fa_signatures.specs.inner.Telling.{told_states}
 use Rattle.fa_signatures.proofs.PairRules.{one_place}
 use Rattle.fa_signatures.proofs.PairRuns.{all_told, none_told, pair_run, run_pair}
-
-mutual
-  -- a state that a run passes by has a tree
-  pub passed_tree : {rules : List Rule} {q p : ℕ} {t : Tree} → PassesBy rules q p t → HasTree rules q
-  passed_tree {rules} {t = t} (at_top e r) = (t, subst (λ (n : ℕ). RunOf rules n t) e r)
-  passed_tree (below r i e s o) = one_tree o
-
-  one_tree : {rules : List Rule} {q : ℕ} {ps : List ℕ} {ts : List Tree} → OnePasses rules q ps ts → HasTree rules q
-  one_tree (this_one p r) = passed_tree p
-  one_tree (later_one r o) = one_tree o
 
 -- the pair of a state over pairs is one of a state of the rules
 pub record PairAt (pairs : List Pair) (rules : List Rule) (k : ℕ) : Type 0 where

@@ -6,12 +6,13 @@ use Rattle.ta_core.specs.Auto.{Automaton, IsRanked}
 use Rattle.ta_core.specs.Language.{HasSameLanguage, IsTrim}
 use Rattle.ta_core.specs.Renumbered.{StandsFor, renumbered}
 use Rattle.ta_core.specs.declared.auto.Rule.{Rule}
+use Rattle.ta_core.proofs.Runs.{passed_tree}
 use Rattle.ta_core.proofs.Shifting.{in_sub}
 use Rattle.fa_core.specs.declared.faces.BoxFace.{BoxFace}
 use Rattle.fa_core.specs.declared.signature.RefMark.{RefMark}
 use Rattle.fa_signatures.specs.CutPieces.{CutsStates, KeepsSymbols, IsPieceBy, IsPiece, AreCut}
 use Rattle.fa_signatures.proofs.PieceLists.{piece_plain}
-use Rattle.fa_signatures.proofs.PieceTrees.{passed_tree, run_state}
+use Rattle.fa_signatures.proofs.PieceTrees.{run_state}
 
 module _ (bs : List BoxFace) (a part : Automaton) (ranked : IsRanked a) (same : HasSameLanguage a part)
     (trim : IsTrim part) (st : StandsFor a part) where
