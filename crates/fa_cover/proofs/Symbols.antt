@@ -1,18 +1,12 @@
 -- The symbols at the tops of trees, where each tree of one automaton is one of another.
-use Rattle.std.proofs.Common.{ℕ, List, [], ◌∷◌, ap, subst}
-use Rattle.fore_base.specs.Lists.{IsIn, Every}
+use Rattle.std.proofs.Common.{ℕ, ap, subst}
+use Rattle.fore_base.specs.Lists.{IsIn}
 use Rattle.fore_base.proofs.ListLemmas.{in_every}
 use Rattle.ta_core.specs.Auto.{Automaton}
-use Rattle.ta_core.specs.Language.{RunOf, run, RunEach, run_none, run_more, HasTree, IsWithin}
-use Rattle.ta_core.specs.declared.auto.Rule.{Rule}
+use Rattle.ta_core.specs.Language.{RunOf, run, IsWithin}
 use Rattle.ta_core.specs.declared.tree.Tree.{Tree, Tree-F, out-Tree, out-roll-Tree}
-use Rattle.ta_core.proofs.Runs.{tree_of, run_tree}
+use Rattle.ta_core.proofs.Runs.{tree_of, run_tree, trees_of}
 use Rattle.fa_cover.specs.inner.Tops.{HasRootRule, KeepsTop, KeepsTops}
-
--- a tree for each of the states
-trees_of : (rules : List Rule) (qs : List ℕ) → Every (HasTree rules) qs → (ts : List Tree) × RunEach rules qs ts
-trees_of rules [] h = ([], run_none)
-trees_of rules (q ∷ qs) h = let ts = trees_of rules qs h.1 in (h.0.0 ∷ ts.0, run_more h.0.1 ts.1)
 
 -- a tree with a run to a root state has its symbol at a rule of one
 top_of : (b : Automaton) {q : ℕ} {t : Tree} → IsIn q b.roots → RunOf b.rules q t → HasRootRule b (out-Tree t).symbol
