@@ -25,7 +25,7 @@ use Rattle.fa_merge.specs.Merged.{CanMerge}
 use Rattle.fa_sound.specs.Components.{component_at}
 use Rattle.fa_merge.specs.Counts.{mark_count, marks_count}
 use Rattle.fa_merge.specs.inner.Counted.{sum_count}
-use Rattle.fa_merge.specs.inner.Signed.{IsSignatureOf}
+use Rattle.fa_merge.specs.Signed.{IsSignatureOf}
 use Rattle.fa_back.specs.Reached.{IsSignedBy}
 use Rattle.fa_back.proofs.RootMarks.{has_in, in_has}
 use Rattle.fa_back.proofs.Dressable.{some_choice}

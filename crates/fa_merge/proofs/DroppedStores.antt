@@ -31,7 +31,6 @@ use Rattle.fa_merge.proofs.DroppedFacts.{but_facts, but_moved, but_root, root_fi
 use Rattle.fa_merge.proofs.DroppedInsides.{dangle_fact, NoFact, HaveInputs, table_inputs}
 use Rattle.fa_back.proofs.FactParts.{fact_cell}
 use Rattle.fa_back.proofs.StoreLaws.{differ as heads_differ}
-use Rattle.fa_merge.proofs.StoreNumbers.{differ}
 
 fact_mapped : (g : Fact → Fact) {xs ys : List Fact} → Rearranged xs ys → Rearranged (map g xs) (map g ys)
 fact_mapped g empty = empty

@@ -22,7 +22,7 @@ use Rattle.fa_sound.specs.Components.{component_at}
 use Rattle.fa_sound.proofs.ComponentLemmas.{component_got}
 use Rattle.fa_merge.specs.Dropped.{IsIdle}
 use Rattle.fa_merge.specs.inner.Idle.{GivesNone, GivesNoneTo}
-use Rattle.fa_merge.specs.inner.Signed.{IsSignatureOf}
+use Rattle.fa_merge.specs.Signed.{IsSignatureOf}
 use Rattle.fa_merge.proofs.DroppedSound.{tree_in}
 use Rattle.fa_merge.proofs.FieldFacts.{no_list}
 use Rattle.fa_merge.proofs.PlacedForests.{component_has}

@@ -35,7 +35,8 @@ use Rattle.fa_back.proofs.Dressable.{some_choice}
 use Rattle.fa_back.proofs.ForestLaws.{signs_within}
 use Rattle.fa_back.proofs.StoreLaws.{unreached_by, reached_by, unreached_store, reached_store, none_sound}
 use Rattle.fa_merge.specs.Reached.{AlwaysLeaks, NeverLeaks, IsReached, IsUnreached, AreAllReached, IsLeastUnreached}
-use Rattle.fa_merge.specs.inner.Signed.{IsSignatureOf, AreReachMarks, IsFirstUnmarked}
+use Rattle.fa_merge.specs.Signed.{IsSignatureOf}
+use Rattle.fa_merge.specs.inner.Signed.{AreReachMarks, IsFirstUnmarked}
 use Rattle.fa_merge.proofs.Named.{refers_below, var_below}
 use Rattle.fa_merge.proofs.RootTrees.{tree_there, tree_below}
 

@@ -33,7 +33,7 @@ use Rattle.fa_core.proofs.PlainWays.{to_often}
 use Rattle.fa_core.proofs.WaysOf.{tree_roots}
 use Rattle.fa_merge.specs.Merged.{CanMerge, Refers}
 use Rattle.fa_sound.specs.Components.{component_at}
-use Rattle.fa_merge.specs.inner.Signed.{IsSignatureOf}
+use Rattle.fa_merge.specs.Signed.{IsSignatureOf}
 use Rattle.fa_merge.specs.inner.Lone.{AllRefer, NoneRefer, IsReferrer, TopsAreCells, IsLone}
 use Rattle.fa_back.proofs.RootMarks.{has_in, in_has, in_mark, mark_in}
 use Rattle.fa_back.proofs.Dressable.{some_choice}

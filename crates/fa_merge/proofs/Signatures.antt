@@ -11,7 +11,8 @@ use Rattle.fa_core.specs.declared.signature.Signature.{Signature}
 use Rattle.fa_core.specs.Filled.{HasSignatures}
 use Rattle.fa_core.specs.Ways.{signature}
 use Rattle.fa_sound.specs.Soundness.{IsStateOf}
-use Rattle.fa_merge.specs.inner.Signed.{IsLiveRoot, IsSignatureOf}
+use Rattle.fa_merge.specs.Signed.{IsSignatureOf}
+use Rattle.fa_merge.specs.inner.Signed.{IsLiveRoot}
 
 pub is_state : (o : Option Automaton) (a : Automaton) (q : ℕ) → o ≡ Some a → q < a.states → IsStateOf o q
 is_state o a q e l = subst (λ (x : Option Automaton). IsStateOf x q) (sym e) l

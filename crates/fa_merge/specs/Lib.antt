@@ -3,4 +3,5 @@ pub mod Dropped
 pub mod Merged
 pub mod Reached
 pub mod Reordered
+pub mod Signed
 pub mod inner

@@ -6,7 +6,7 @@ ghost use Rattle.fa_core.specs.declared.forest.Target.TheVariants.{At};
 ghost use Rattle.fa_merge.specs.Merged.{CanMerge};
 ghost use Rattle.fa_merge.specs.Counts.{mark_count, marks_count};
 ghost use Rattle.fa_merge.specs.inner.Counted.{sum_count};
-ghost use Rattle.fa_merge.specs.inner.Signed.{IsSignatureOf};
+ghost use Rattle.fa_merge.specs.Signed.{IsSignatureOf};
 
 use crate::merge::is_marked_root;
 use crate::signing::{component_signature, component_signatures};

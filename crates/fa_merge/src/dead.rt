@@ -1,20 +1,18 @@
 // Cells that are dropped.
 
-ghost use Rattle.std.specs.Prelude.{◌≡◌, ◌<◌, List, length, map, IfOk};
+ghost use Rattle.std.specs.Prelude.{◌≡◌, ◌<◌, List, length, IfOk};
 ghost use Rattle.fore_base.specs.Lists.{Every};
 ghost use Rattle.fa_core.specs.Boxes.{IsTableOf};
 ghost use Rattle.fa_core.specs.Boxless.{HasNoBoxes};
-ghost use Rattle.fa_core.specs.Placed.{placed_auto};
 ghost use Rattle.fa_core.specs.declared.boxes.BoxDef.{BoxDef};
-ghost use Rattle.fa_merge.specs.Dropped.{CanDrop, IsCut, IsIdle, Removes, Restores, drop_leaf, dropped_forest};
+ghost use Rattle.fa_merge.specs.Dropped.{CanDrop, IsCut, IsIdle, Removes, Restores, dropped_forest};
 
-use crate::placing::{Leaves, place_auto, place_targets};
+use crate::placing::{Leaves, place_autos, place_targets};
 use fa_core::forest::{Forest, Target};
 use fa_sound::Sound;
-use fore_base::list::{Copies, List};
+use fore_base::list::Copies;
 use fore_base::memory::Mem;
 use std::alloc::Global;
-use ta_core::auto::Auto;
 
 /// The forest without the root: each reference to it is Dangling, and later roots move down by one. No box edge gives a
 /// field there, and none of the root's own gives one to a root. So a Link that ended there ends in Dangling; its inside
@@ -53,13 +51,13 @@ impl Leaves for Without {
 
     ghost leaf_of = { λ without. drop_leaf without.root };
 
-    fn leaf(&self, root: u32) -> Target {
+    fn leaf(&self, root: u32) -> Mem<Target> {
         if self.root == root {
-            Target::Dangling
+            Ok(Target::Dangling)
         } else if self.root < root {
-            Target::At(root - 1)
+            Ok(Target::At(root - 1))
         } else {
-            Target::At(root)
+            Ok(Target::At(root))
         }
     }
 }
@@ -69,7 +67,7 @@ fn drop_root(alloc: Global, forest: &Forest, root: u32) -> Mem<Forest>
     ensures { IfOk result (λ made. made ≡ dropped_forest root forest.now) }
 {
     let leaves = Without { root };
-    let mut autos = drop_references(alloc, forest.autos.as_slice(), &leaves)?;
+    let mut autos = place_autos(alloc, forest.autos.as_slice(), &leaves)?;
     let _own = autos.remove(root as usize);
     let vars = place_targets(alloc, forest.vars.as_slice(), &leaves)?;
     let data_vars = forest.data_vars.copy(alloc)?;
@@ -78,15 +76,4 @@ fn drop_root(alloc: Global, forest: &Forest, root: u32) -> Mem<Forest>
         vars,
         data_vars,
     })
-}
-
-fn drop_references(alloc: Global, autos: &[Auto], leaves: &Without) -> Mem<List<Auto>>
-    ensures { IfOk result (λ made. made ≡ map (placed_auto (drop_leaf leaves.now.root)) autos.now) }
-{
-    let mut made = List::new(alloc);
-    for auto in autos {
-        let auto = place_auto(alloc, auto, leaves)?;
-        made.push(auto)?;
-    }
-    Ok(made)
 }

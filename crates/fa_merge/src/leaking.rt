@@ -10,7 +10,8 @@ ghost use Rattle.fa_core.specs.declared.boxes.BoxDef.{BoxDef};
 ghost use Rattle.fa_back.specs.Insides.{AreRankedInsides};
 ghost use Rattle.fa_merge.specs.Reached.{AlwaysLeaks, AreAllReached, DoAllLeak, DoesNoneLeak};
 ghost use Rattle.fa_merge.specs.Reached.{IsLeastUnreached, NeverLeaks};
-ghost use Rattle.fa_merge.specs.inner.Signed.{AreReachMarks, IsFirstUnmarked, IsSignatureOf};
+ghost use Rattle.fa_merge.specs.Signed.{IsSignatureOf};
+ghost use Rattle.fa_merge.specs.inner.Signed.{AreReachMarks, IsFirstUnmarked};
 
 use crate::signing::component_signatures;
 use fa_back::closure::reached;

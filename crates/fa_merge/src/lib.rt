@@ -12,7 +12,7 @@ pub mod leaking;
 pub mod merge;
 mod merging;
 mod orders;
-mod placing;
+pub mod placing;
 mod signing;
 
 pub use counting::can_merge;
@@ -21,3 +21,4 @@ pub use idle::is_idle;
 pub use leaking::leaking_root;
 pub use merge::{merge_root, reorder};
 pub use placing::symbol_of;
+pub use signing::{component_signature, component_signatures};

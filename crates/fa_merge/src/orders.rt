@@ -25,8 +25,8 @@ impl Leaves for Places<'_> {
 
     ghost leaf_of = { λ places. renumber (place_of places.order.now) };
 
-    fn leaf(&self, root: u32) -> Target {
-        Target::At(place_in(self.order, root))
+    fn leaf(&self, root: u32) -> Mem<Target> {
+        Ok(Target::At(place_in(self.order, root)))
     }
 }
 

@@ -17,12 +17,27 @@ use ta_core::symbol::Symbol;
 pub trait Leaves {
     ghost leaf_of: { Self → ℕ → Target };
 
-    /// The leaf that stands in the place of references to the root.
-    fn leaf(&self, root: u32) -> Target
-        ensures { result ≡ leaf_of self.now root };
+    /// The leaf that stands in the place of references to the root. Err is want of memory, also where numbers of roots
+    /// do not fit 32 bits.
+    fn leaf(&self, root: u32) -> Mem<Target>
+        ensures { IfOk result (λ leaf. leaf ≡ leaf_of self.now root) };
 }
 
-/// The automaton with these leaves in the place of references. Err is want of memory.
+/// The automata with these leaves in the place of references. Err is want of memory, also where numbers of roots do not
+/// fit 32 bits.
+pub fn place_autos<L: Leaves>(alloc: Global, autos: &[Auto], leaves: &L) -> Mem<List<Auto>>
+    ensures { IfOk result (λ made. made ≡ map (placed_auto (L.leaf_of leaves.now)) autos.now) }
+{
+    let mut made = List::new(alloc);
+    for auto in autos {
+        let auto = place_auto(alloc, auto, leaves)?;
+        made.push(auto)?;
+    }
+    Ok(made)
+}
+
+/// The automaton with these leaves in the place of references. Err is want of memory, also where numbers of roots do
+/// not fit 32 bits.
 pub fn place_auto<L: Leaves>(alloc: Global, auto: &Auto, leaves: &L) -> Mem<Auto>
     ensures { IfOk result (λ made. made ≡ placed_auto (L.leaf_of leaves.now) auto.now) }
 {
@@ -35,7 +50,9 @@ pub fn place_auto<L: Leaves>(alloc: Global, auto: &Auto, leaves: &L) -> Mem<Auto
     })
 }
 
-fn place_rules<L: Leaves>(alloc: Global, rules: &[Rule], leaves: &L) -> Mem<List<Rule>>
+/// The rules with these leaves in the place of references. Err is want of memory, also where numbers of roots do not
+/// fit 32 bits.
+pub fn place_rules<L: Leaves>(alloc: Global, rules: &[Rule], leaves: &L) -> Mem<List<Rule>>
     ensures { IfOk result (λ made. made ≡ map (placed_rule (L.leaf_of leaves.now)) rules.now) }
 {
     let mut made = List::new(alloc);
@@ -60,7 +77,7 @@ fn place_symbol<L: Leaves>(alloc: Global, symbol: &Symbol, leaves: &L) -> Mem<Sy
     ensures { IfOk result (λ made. made ≡ placed_symbol (L.leaf_of leaves.now) symbol.now) }
 {
     match symbol {
-        Symbol::Ref(root) => Ok(symbol_of(leaves.leaf(*root))),
+        Symbol::Ref(root) => Ok(symbol_of(leaves.leaf(*root)?)),
         _ => symbol.copy(alloc),
     }
 }
@@ -77,22 +94,23 @@ pub fn symbol_of(leaf: Target) -> Symbol
     }
 }
 
-/// The targets with these leaves in the place of roots. Err is want of memory.
+/// The targets with these leaves in the place of roots. Err is want of memory, also where numbers of roots do not fit
+/// 32 bits.
 pub fn place_targets<L: Leaves>(alloc: Global, targets: &[Target], leaves: &L) -> Mem<List<Target>>
     ensures { IfOk result (λ made. made ≡ map (placed_leaf (L.leaf_of leaves.now)) targets.now) }
 {
     let mut made = List::new(alloc);
     for target in targets {
-        made.push(place_target(*target, leaves))?;
+        made.push(place_target(*target, leaves)?)?;
     }
     Ok(made)
 }
 
-fn place_target<L: Leaves>(target: Target, leaves: &L) -> Target
-    ensures { result ≡ placed_leaf (L.leaf_of leaves.now) target }
+fn place_target<L: Leaves>(target: Target, leaves: &L) -> Mem<Target>
+    ensures { IfOk result (λ made. made ≡ placed_leaf (L.leaf_of leaves.now) target) }
 {
     match target {
         Target::At(root) => leaves.leaf(root),
-        _ => target,
+        _ => Ok(target),
     }
 }

@@ -4,7 +4,8 @@ ghost use Rattle.std.specs.Prelude.{◌≡◌, ◌<◌, length, Some, slice_get,
 ghost use Rattle.fore_base.specs.Lists.{IsIn, Every, Paired};
 ghost use Rattle.ta_core.specs.Auto.{Automaton};
 ghost use Rattle.fa_sound.specs.Soundness.{IsStateOf};
-ghost use Rattle.fa_merge.specs.inner.Signed.{IsLiveOf, IsSignatureOf, IsSilentOf};
+ghost use Rattle.fa_merge.specs.Signed.{IsSignatureOf};
+ghost use Rattle.fa_merge.specs.inner.Signed.{IsLiveOf, IsSilentOf};
 
 use fa_core::signature::Signature;
 use fa_sound::Sound;
@@ -12,7 +13,7 @@ use fore_base::list::{Copies, List};
 use fore_base::memory::Mem;
 use std::alloc::Global;
 
-/// The signature of each component: that of all its trees.
+/// The signature of each component: that of all its trees. Err is want of memory.
 pub fn component_signatures(alloc: Global, forest: &Sound, count: u32) -> Mem<List<Signature>>
     requires { count ≡ length forest.now.forest.autos }
     ensures { IfOk result (λ all. Paired (IsSignatureOf forest.now.face.boxes) forest.now.forest.autos all) }
@@ -25,7 +26,8 @@ pub fn component_signatures(alloc: Global, forest: &Sound, count: u32) -> Mem<Li
     Ok(all)
 }
 
-/// The signature of all trees of the root: that of a root state whose trees refer to some root, if there is one.
+/// The signature of all trees of the root: that of a root state whose trees refer to some root, if there is one. Err is
+/// want of memory.
 pub fn component_signature(alloc: Global, forest: &Sound, root: u32) -> Mem<Signature>
     requires { root < length forest.now.forest.autos }
     ensures { IfOk result (λ s. (a : Automaton) → slice_get forest.now.forest.autos root ≡ Some a

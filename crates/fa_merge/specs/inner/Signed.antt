@@ -1,14 +1,13 @@
--- The signatures of components, and marks of the roots that are reached.
+-- States whose trees refer to some root or to none, and marks of the roots that are reached.
 use Rattle.std.specs.Prelude.{◌≡◌, ℕ, ◌<◌, Bool, false, length, slice_index_or, List, [], Option, Some}
 use Rattle.fore_base.specs.Lists.{IsIn}
 use Rattle.fore_base.specs.Marks.{IsMarked}
 use Rattle.ta_core.specs.Auto.{Automaton}
-use Rattle.ta_core.specs.Language.{InLanguage, HasTree, RunOf}
+use Rattle.ta_core.specs.Language.{HasTree, RunOf}
 use Rattle.ta_core.specs.declared.tree.Tree.{Tree}
 use Rattle.fa_core.specs.declared.faces.BoxFace.{BoxFace}
 use Rattle.fa_core.specs.declared.faces.Face.{Face}
 use Rattle.fa_core.specs.declared.forest.Forest.{Forest}
-use Rattle.fa_core.specs.declared.signature.Signature.{Signature}
 use Rattle.fa_core.specs.Ways.{signature}
 use Rattle.fa_merge.specs.Reached.{IsReached, IsUnreached}
 
@@ -23,10 +22,6 @@ IsLiveOf o q = (a : Automaton) → o ≡ Some a → HasTree a.rules q
 -- no tree of the component's state refers to a root
 abbrev pub IsSilentOf : List BoxFace → Option Automaton → ℕ → Type 0
 IsSilentOf bs o q = (a : Automaton) (t : Tree) → o ≡ Some a → RunOf a.rules q t → signature bs t ≡ []
-
--- each tree of the component has the signature
-abbrev pub IsSignatureOf : List BoxFace → Automaton → Signature → Type 0
-IsSignatureOf bs a s = (t : Tree) → InLanguage a t → signature bs t ≡ s.refs
 
 -- a mark for each root: the marked ones are reached, whichever trees are taken, and the others are not
 pub record AreReachMarks (face : Face) (F : Forest) (marks : List Bool) : Type 0 where

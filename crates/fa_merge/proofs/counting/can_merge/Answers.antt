@@ -2,7 +2,7 @@ use Rattle.std.proofs.Common.{◌∙◌, ap, length, sym, true≢false}
 use Rattle.fa_core.specs.declared.forest.Forest.{Forest}
 use Rattle.fore_base.proofs.ListLemmas.{paired_long}
 use Rattle.fa_sound.specs.Components.{component_at}
-use Rattle.fa_merge.specs.inner.Signed.{IsSignatureOf}
+use Rattle.fa_merge.specs.Signed.{IsSignatureOf}
 use Rattle.fa_merge.proofs.CountedRefs.{in_own, merge_decided}
 use Rattle.fa_sound.proofs.ComponentLemmas.{component_got}
 use Rattle.fa_merge.proofs.counting.can_merge.Goals as goal

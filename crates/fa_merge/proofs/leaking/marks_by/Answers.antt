@@ -1,7 +1,7 @@
 use Rattle.std.proofs.Common.{arith}
 use Rattle.std.proofs.lemmas.Result.{IfOk-weaker}
 use Rattle.fore_base.proofs.ListLemmas.{paired_long}
-use Rattle.fa_merge.specs.inner.Signed.{IsSignatureOf}
+use Rattle.fa_merge.specs.Signed.{IsSignatureOf}
 use Rattle.fa_merge.proofs.LeaksDecided.{signs_name_below, vars_name_below, signed_marks}
 use Rattle.fa_merge.proofs.leaking.marks_by.Goals as goal
 

@@ -5,7 +5,8 @@ use Rattle.fore_base.proofs.ListLemmas.{every_in, in_every, same_item}
 use Rattle.ta_core.specs.Auto.{Automaton}
 use Rattle.fa_core.specs.declared.signature.Signature.{Signature}
 use Rattle.fa_sound.specs.Soundness.{IsStateOf}
-use Rattle.fa_merge.specs.inner.Signed.{IsLiveRoot, IsSignatureOf, IsSilentOf}
+use Rattle.fa_merge.specs.Signed.{IsSignatureOf}
+use Rattle.fa_merge.specs.inner.Signed.{IsLiveRoot, IsSilentOf}
 use Rattle.fa_merge.proofs.Signatures.{is_state, signatures_at, live_signature}
 use Rattle.fa_merge.proofs.signing.component_signature.Goals as goal
 

@@ -1,6 +1,6 @@
 use Rattle.std.proofs.Common.{arith}
 use Rattle.fore_base.proofs.ListLemmas.{paired_push}
-use Rattle.fa_merge.specs.inner.Signed.{IsSignatureOf}
+use Rattle.fa_merge.specs.Signed.{IsSignatureOf}
 use Rattle.fa_merge.proofs.Signatures.{one_more}
 use Rattle.fa_merge.proofs.signing.component_signatures.Goals as goal
 

@@ -1,6 +1,6 @@
 use Rattle.std.proofs.Common.{take}
 use Rattle.fore_base.specs.Lists.{Paired}
-use Rattle.fa_merge.specs.inner.Signed.{IsSignatureOf}
+use Rattle.fa_merge.specs.Signed.{IsSignatureOf}
 use Rattle.fa_merge.proofs.signing.component_signatures.Given as goal
 
 abbrev pub invariant-loop-root : goal.invariant-loop-root
