@@ -63,7 +63,7 @@ fn forests_by_rule(alloc: Global, forest: &Sound, root: u32) -> Mem<List<Sound>>
 }
 
 /// Whether the rule is of a root state and stands at the top of some tree; the marks are of the states that have trees.
-fn stands_at_top(auto: &Auto, marks: &[bool], rule: &Rule) -> bool
+pub fn stands_at_top(auto: &Auto, marks: &[bool], rule: &Rule) -> bool
     requires { MarksOf auto.now.states (HasTree auto.now.rules) marks.now }
     ensures { IsTrue result ↔ StandsAtTop auto.now rule.now }
 {

@@ -9,7 +9,7 @@ ghost use Rattle.fa_core.specs.Member.{leaf_symbol};
 ghost use Rattle.fa_split.specs.Split.{AreThose};
 ghost use Rattle.fa_split.specs.inner.Ends.{HasCellRule, HasLeafRule, IsAdded, IsCellRule};
 
-use crate::topping::is_of_leaf;
+use fa_core::cells::is_leaf;
 use fa_core::forest::Target;
 use fore_base::list::List;
 use fore_base::marks::are_all_marked;
@@ -19,7 +19,7 @@ use ta_core::auto::Rule;
 use ta_core::symbol::Symbol;
 
 /// The leaf of the symbol, None where it is a cell's.
-fn leaf_of(symbol: &Symbol) -> Option<Target>
+pub fn leaf_of(symbol: &Symbol) -> Option<Target>
     ensures { MatchOption result (is_leaf symbol.now ≡ false) (λ leaf. symbol.now ≡ leaf_symbol leaf) }
 {
     match symbol {
@@ -74,7 +74,7 @@ fn is_cell_at(all: &[Rule], marks: &[bool], rule: &Rule, state: u32, count: u32)
     if rule.state != state {
         return false;
     }
-    !is_of_leaf(&rule.symbol) && are_all_marked(marks, rule.children.as_slice())
+    !is_leaf(&rule.symbol) && are_all_marked(marks, rule.children.as_slice())
 }
 
 /// Whether some tree of the state is a cell; the marks are of the states that have trees.

@@ -11,10 +11,11 @@ pub mod splitting;
 mod topping;
 
 pub use children::child_marks;
-pub use choosing::choose_rule;
+pub use choosing::{choose_rule, stands_at_top};
+pub use ending::leaf_of;
 pub use replacing::ranked_components;
 pub use splitting::{can_split, fix_at, fix_leaf, split_child};
 pub use topping::{
-    children_of, choose, copied_rules, count_children, fix_child, one_root, roots_of, rule_at,
-    rule_at_top, rules_of, state_at, states_of,
+    alone, children_of, choose, copied_rules, count_children, fix_child, one_root, roots_of,
+    rule_at, rule_at_top, rules_of, slots_of, state_at, states_of,
 };

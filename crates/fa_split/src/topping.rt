@@ -2,15 +2,16 @@
 
 ghost use Rattle.std.specs.Prelude.{◌≡◌, ◌<◌, ◌+◌, ◌^◌, false, [], ◌∷◌, length, IfOk, MatchOption};
 ghost use Rattle.fore_base.specs.Lists.{IsIn};
+ghost use Rattle.ta_core.specs.Auto.{IsRanked};
 ghost use Rattle.ta_core.specs.Single.{HasOneTop};
 ghost use Rattle.ta_core.specs.declared.auto.Rule.{Rule};
-ghost use Rattle.fa_core.specs.Cells.{is_leaf};
+ghost use Rattle.fa_core.specs.Folding.{symbol_slots};
 ghost use Rattle.fa_core.specs.Ways.{has};
 ghost use Rattle.fa_split.specs.Chosen.{chosen};
 ghost use Rattle.fa_split.specs.Split.{cell_rules, child_state, first_of, fixed, fresh_leaf, fresh_top, lifted};
 ghost use Rattle.fa_split.specs.Split.{top_rule};
 
-use fa_core::cells::has;
+use fa_core::cells::{has, is_leaf};
 use fa_core::forest::Target;
 use fa_merge::symbol_of;
 use fore_base::list::{Copies, List};
@@ -18,7 +19,7 @@ use fore_base::memory::Mem;
 use std::alloc::Global;
 use ta_core::auto::{Auto, Rule};
 use ta_core::joining::room;
-use ta_core::symbol::Symbol;
+use ta_core::symbol::{Slot, Symbol};
 
 /// How many states it has.
 pub fn states_of(auto: &Auto) -> u32
@@ -39,6 +40,16 @@ pub fn rules_of(auto: &Auto) -> &[Rule]
     ensures { result.now ≡ auto.now.rules }
 {
     auto.rules.as_slice()
+}
+
+/// The slots of the symbol.
+pub fn slots_of(symbol: &Symbol) -> &[Slot]
+    ensures { result.now ≡ symbol_slots symbol.now }
+{
+    match symbol {
+        Symbol::Cell { slots, .. } => slots.as_slice(),
+        _ => &[],
+    }
 }
 
 /// Its rules, in a list of their own. Err is want of memory.
@@ -79,6 +90,15 @@ pub fn choose(alloc: Global, auto: &Auto, rule: &Rule) -> Mem<Auto>
     ensures { IfOk result (λ made. made ≡ chosen auto.now rule.now) }
 {
     auto.known();
+    alone(alloc, auto, rule)
+}
+
+/// The rule alone at a root state of its own, behind the states. Err is want of memory, also where states do not fit 32
+/// bits.
+pub fn alone(alloc: Global, auto: &Auto, rule: &Rule) -> Mem<Auto>
+    requires { IsRanked (chosen auto.now rule.now) }
+    ensures { IfOk result (λ made. made ≡ chosen auto.now rule.now) }
+{
     let states = room(auto, 1)?;
     let roots = one_root(alloc, states_of(auto))?;
     let mut rules = copied_rules(alloc, auto)?;
@@ -179,22 +199,12 @@ pub fn state_at(auto: &Auto, place: usize) -> u32
     rule_at_top(auto).children.get_or(place, 0)
 }
 
-/// Whether the symbol is a leaf's.
-pub fn is_of_leaf(symbol: &Symbol) -> bool
-    ensures { result ≡ is_leaf symbol.now }
-{
-    match symbol {
-        Symbol::Cell { .. } => false,
-        _ => true,
-    }
-}
-
 fn rules_of_cells(alloc: Global, rules: &[Rule], from: u32, to: u32) -> Mem<List<Rule>>
     ensures { IfOk result (λ made. made ≡ cell_rules to from rules.now) }
 {
     let mut made = List::new(alloc);
     for rule in rules {
-        if rule.state == from && !is_of_leaf(&rule.symbol) {
+        if rule.state == from && !is_leaf(&rule.symbol) {
             made.push(rule_at(alloc, rule, to)?)?;
         }
     }
