@@ -9,8 +9,8 @@ ghost use Rattle.fa_folding.specs.Gaining.{with_rules};
 
 use fa_core::cells::has;
 use fa_core::faces::BoxFace;
-use fa_split::{copied_rules, rule_at_top, states_of};
-use fa_unfold::growing::{alone, with_places};
+use fa_split::{alone, copied_rules, rule_at_top, states_of};
+use fa_unfold::growing::with_places;
 use fa_unfold::slots::{joined, rule_places};
 use fore_base::list::{Copies, List};
 use fore_base::memory::Mem;
@@ -126,7 +126,7 @@ fn with_rules(alloc: Global, auto: &Auto, rules: List<Rule>) -> Mem<Auto>
 }
 
 /// Whether the slot is one of the fields.
-fn is_one_of(fields: &[u32], slot: Slot) -> bool
+pub fn is_one_of(fields: &[u32], slot: Slot) -> bool
     ensures { result ≡ is_one_of fields.now slot }
 {
     match slot {

@@ -1,13 +1,11 @@
 // Box edges at the slots of roots that have one rule.
 
-ghost use Rattle.std.specs.Prelude.{◌≡◌, ◌↔◌, ◌≤◌, false, Some, length, slice_get, IsTrue, MatchOption};
+ghost use Rattle.std.specs.Prelude.{◌≡◌, ◌↔◌, ◌≤◌, Some, length, slice_get, IsTrue, MatchOption};
 ghost use Rattle.fore_base.specs.Lists.{Every};
 ghost use Rattle.ta_core.specs.Arity.{child_slots};
 ghost use Rattle.ta_core.specs.Auto.{IsRanked};
 ghost use Rattle.ta_core.specs.Single.{HasOneTop};
-ghost use Rattle.fa_core.specs.Cells.{is_leaf};
 ghost use Rattle.fa_core.specs.Folding.{symbol_slots};
-ghost use Rattle.fa_core.specs.Member.{leaf_symbol};
 ghost use Rattle.fa_core.specs.declared.forest.Target.{Target};
 ghost use Rattle.fa_split.specs.Split.{top_rule};
 ghost use Rattle.fa_split.specs.inner.Ends.{HasLeafRule};
@@ -16,13 +14,12 @@ ghost use Rattle.fa_unfold.specs.Slots.{children_before};
 ghost use Rattle.fa_unfold.specs.UnfoldingOf.{CanUnfold, IsBoxEdge, root_slots};
 ghost use Rattle.fa_unfold.specs.inner.Cuts.{HasLinkAt};
 
-use crate::slots::slots_of;
 use fa_core::forest::{Forest, Target};
 use fa_sound::{Sound, component};
-use fa_split::{rule_at_top, rules_of, state_at};
+use fa_split::{leaf_of, rule_at_top, rules_of, slots_of, state_at};
 use ta_core::auto::{Auto, Rule};
 use ta_core::single::has_one_top;
-use ta_core::symbol::{Slot, Symbol};
+use ta_core::symbol::Slot;
 
 /// Whether the root is there and has one rule, whose slot of this number is a Link or a Hook.
 pub fn can_unfold(forest: &Sound, root: u32, slot: usize) -> bool
@@ -125,17 +122,4 @@ fn first_leaf(rules: &[Rule], state: u32) -> Option<Target>
         }
     }
     None
-}
-
-/// The leaf of the symbol, None where it is a cell's.
-fn leaf_of(symbol: &Symbol) -> Option<Target>
-    ensures { MatchOption result (is_leaf symbol.now ≡ false) (λ leaf. symbol.now ≡ leaf_symbol leaf) }
-{
-    match symbol {
-        Symbol::Null => Some(Target::Null),
-        Symbol::Uninit => Some(Target::Uninit),
-        Symbol::Dangling => Some(Target::Dangling),
-        Symbol::Ref(root) => Some(Target::At(*root)),
-        Symbol::Cell { .. } => None,
-    }
 }

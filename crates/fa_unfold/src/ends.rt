@@ -59,11 +59,11 @@ fn grow_end(
     grown_roots(alloc, boxes, forest, end, own.as_slice(), port, rules)
 }
 
-/// The forest alone.
-fn only(alloc: Global, forest: &Forest) -> Mem<List<Forest>>
-    ensures { IfOk result (λ made. made ≡ forest.now ∷ []) }
+/// The item alone, as a list of its copy.
+fn only<T: Copies>(alloc: Global, item: &T) -> Mem<List<T>>
+    ensures { IfOk result (λ made. made ≡ item.now ∷ []) }
 {
-    let one = forest.copy(alloc)?;
+    let one = item.copy(alloc)?;
     let mut made = List::new(alloc);
     made.push(one)?;
     Ok(made)
@@ -82,16 +82,7 @@ fn end_rules(
     ensures { IfOk result (λ made. made ≡ end_rules forest.now root end ends.now) }
 {
     if root == end {
-        return one_rule(alloc, rule_at_top(component(forest, root)));
+        return only(alloc, rule_at_top(component(forest, root)));
     }
     ends.copy(alloc)
-}
-
-fn one_rule(alloc: Global, rule: &Rule) -> Mem<List<Rule>>
-    ensures { IfOk result (λ made. made ≡ rule.now ∷ []) }
-{
-    let one = rule.copy(alloc)?;
-    let mut made = List::new(alloc);
-    made.push(one)?;
-    Ok(made)
 }

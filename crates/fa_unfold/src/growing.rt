@@ -2,15 +2,13 @@
 
 ghost use Rattle.std.specs.Prelude.{◌≡◌, flat_map, map, IfOk};
 ghost use Rattle.ta_core.specs.Auto.{IsRanked};
-ghost use Rattle.ta_core.specs.Joined.{united};
-ghost use Rattle.fa_split.specs.Chosen.{chosen};
 ghost use Rattle.fa_unfold.specs.Slots.{joined, moved_place, place_key, rule_places, with_places, with_slots};
 ghost use Rattle.fa_unfold.specs.Unfolding.{below_tops, child_states, grown, rules_below};
 
 use crate::slots::{joined, moved_places, rule_places};
 use fa_core::cells::has;
 use fa_core::faces::BoxFace;
-use fa_split::{copied_rules, one_root, roots_of, rule_at, rules_of, states_of};
+use fa_split::{alone, roots_of, rules_of, states_of};
 use fore_base::list::{Copies, List};
 use fore_base::memory::Mem;
 use std::alloc::Global;
@@ -79,17 +77,10 @@ pub fn grown(
     ensures { IfOk result (λ made. made ≡ grown boxes.now auto.now rule.now base.now port.now from.now) }
 {
     let below = below_tops(alloc, port)?;
-    let both = united(alloc, auto, &below)?;
+    let _states = room(auto, states_of(&below))?;
+    let both = union(alloc, auto, &below)?;
     let top = grown_rule(alloc, boxes, auto, rule, base, from)?;
     alone(alloc, &both, &top)
-}
-
-/// The states of both automata, those of the second behind those of the first.
-fn united(alloc: Global, auto: &Auto, more: &Auto) -> Mem<Auto>
-    ensures { IfOk result (λ made. made ≡ united auto.now more.now) }
-{
-    let _states = room(auto, states_of(more))?;
-    union(alloc, auto, more)
 }
 
 /// The rule of the cell, with these slots and those of the other rule.
@@ -108,23 +99,6 @@ fn grown_rule(
     let more = moved_places(alloc, own.as_slice(), states_of(auto))?;
     let all = joined(alloc, boxes, base, more.as_slice())?;
     with_places(alloc, rule, all.as_slice())
-}
-
-/// The rule alone at a root state of its own, behind the states. Err is want of memory, also where states do not fit 32
-/// bits.
-pub fn alone(alloc: Global, auto: &Auto, rule: &Rule) -> Mem<Auto>
-    requires { IsRanked (chosen auto.now rule.now) }
-    ensures { IfOk result (λ made. made ≡ chosen auto.now rule.now) }
-{
-    let states = room(auto, 1)?;
-    let roots = one_root(alloc, states_of(auto))?;
-    let mut rules = copied_rules(alloc, auto)?;
-    rules.push(rule_at(alloc, rule, states_of(auto))?)?;
-    Ok(Auto {
-        states,
-        roots,
-        rules,
-    })
 }
 
 /// The rule with other slots and children. Err is want of memory.

@@ -13,9 +13,9 @@ mod roots;
 pub mod slots;
 mod tables;
 mod tops;
-mod unfolding;
 mod whole;
 
 pub use edges::can_unfold;
-pub use slots::{rule_places, slots_of};
+pub use fa_split::slots_of;
+pub use slots::rule_places;
 pub use whole::unfold;

@@ -15,12 +15,13 @@ ghost use Rattle.fa_unfold.specs.inner.Ranges.{CanUnfoldBy};
 
 use crate::ends::with_end;
 use crate::lists::open_each;
-use crate::placing::{Site, place_auto, place_autos};
+use crate::placing::Site;
 use crate::roots::{open_root, with_inner};
 use crate::tops::tops;
 use fa_core::faces::BoxFace;
 use fa_core::forest::{Forest, Target};
 use fa_core::table::BoxTable;
+use fa_merge::placing::{place_auto, place_autos};
 use fa_sound::{component, count_roots};
 use fore_base::list::{Copies, List};
 use fore_base::memory::Mem;

@@ -1,34 +1,24 @@
 // Slots of cells, with the states of their children, taken apart and put together.
 
-ghost use Rattle.std.specs.Prelude.{◌≡◌, [], ◌∷◌, map, flat_map, IfOk};
+ghost use Rattle.std.specs.Prelude.{◌≡◌, ◌∷◌, map, IfOk};
 ghost use Rattle.ta_core.specs.Joined.{shift};
 ghost use Rattle.fa_core.specs.Filled.{gives_in_of, least, least_of};
-ghost use Rattle.fa_core.specs.Folding.{symbol_slots};
 ghost use Rattle.fa_unfold.specs.Slots.{joined, moved_place, place_key, put_in, rule_places, slot_key, state_places};
 ghost use Rattle.fa_unfold.specs.Slots.{without};
 
 use fa_core::faces::BoxFace;
+use fa_split::{one_root, slots_of};
 use fore_base::list::{Copies, List};
 use fore_base::memory::Mem;
 use std::alloc::{AllocError, Global};
 use ta_core::auto::Rule;
-use ta_core::symbol::{Slot, Symbol};
+use ta_core::symbol::Slot;
 
 /// The slots of the rule, each with the state of its child, if it has one. Err is want of memory.
 pub fn rule_places(alloc: Global, rule: &Rule) -> Mem<List<(Slot, List<u32>)>>
     ensures { IfOk result (λ made. made ≡ rule_places rule.now) }
 {
     state_places(alloc, slots_of(&rule.symbol), rule.children.as_slice())
-}
-
-/// The slots of the symbol.
-pub fn slots_of(symbol: &Symbol) -> &[Slot]
-    ensures { result.now ≡ symbol_slots symbol.now }
-{
-    match symbol {
-        Symbol::Cell { slots, .. } => slots.as_slice(),
-        _ => &[],
-    }
 }
 
 fn state_places(alloc: Global, slots: &[Slot], states: &[u32]) -> Mem<List<(Slot, List<u32>)>>
@@ -43,20 +33,12 @@ fn state_places(alloc: Global, slots: &[Slot], states: &[u32]) -> Mem<List<(Slot
                 if place >= states.len() {
                     return Ok(made);
                 }
-                let child = one_state(alloc, states[place])?;
+                let child = one_root(alloc, states[place])?;
                 made.push((*slot, child))?;
                 place += 1;
             }
         }
     }
-    Ok(made)
-}
-
-fn one_state(alloc: Global, state: u32) -> Mem<List<u32>>
-    ensures { IfOk result (λ made. made ≡ state ∷ []) }
-{
-    let mut made = List::new(alloc);
-    made.push(state)?;
     Ok(made)
 }
 

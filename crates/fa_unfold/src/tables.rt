@@ -1,4 +1,4 @@
-// Box edges of sound forests replaced by the insides that a table of boxes has.
+// Box edges of sound forests replaced by the insides that a table of boxes has, and cut by signatures.
 
 ghost use Rattle.std.specs.Prelude.{◌≡◌, IfOk};
 ghost use Rattle.fore_base.specs.Lists.{Every};
@@ -7,8 +7,8 @@ ghost use Rattle.fa_unfold.specs.Sites.{IsHookAt, IsLinkAt};
 ghost use Rattle.fa_unfold.specs.Unfolded.{UnfoldsInto};
 ghost use Rattle.fa_unfold.specs.inner.Cuts.{IsUnfoldedHook, IsUnfoldedLink};
 
-use crate::replacing::inside;
-use crate::unfolding::{unfold_hook_at, unfold_link_at};
+use crate::cuts::cut_all;
+use crate::replacing::{inside, unfold_hook, unfold_link};
 use fa_back::ranked_insides;
 use fa_core::forest::Target;
 use fa_core::table::BoxTable;
@@ -36,10 +36,15 @@ pub fn replace_link(
     forest.known();
     table.known();
     ranked_insides(table);
+    let whole = forest.forest();
     match inside(table, number) {
-        [input, output, inner @ ..] => unfold_link_at(
-            alloc, forest, table, root, place, number, end, input, output, inner,
-        ),
+        [input, output, inner @ ..] => {
+            let wholes = unfold_link(
+                alloc, table, whole, root, place, number, end, input, output, inner,
+            )?;
+            let made = cut_all(alloc, wholes.as_slice(), table.face())?;
+            Ok(made)
+        }
         _ => unreachable!(),
     }
 }
@@ -62,9 +67,12 @@ pub fn replace_hook(
     forest.known();
     table.known();
     ranked_insides(table);
+    let whole = forest.forest();
     match inside(table, number) {
         [input, inner @ ..] => {
-            unfold_hook_at(alloc, forest, table, root, place, number, input, inner)
+            let wholes = unfold_hook(alloc, table, whole, root, place, number, input, inner)?;
+            let made = cut_all(alloc, wholes.as_slice(), table.face())?;
+            Ok(made)
         }
         _ => unreachable!(),
     }

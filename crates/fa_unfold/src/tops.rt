@@ -3,16 +3,12 @@
 ghost use Rattle.std.specs.Prelude.{◌≡◌, ◌↔◌, IsTrue, IfOk};
 ghost use Rattle.fore_base.specs.Marks.{MarksOf};
 ghost use Rattle.ta_core.specs.Language.{HasTree};
-ghost use Rattle.fa_core.specs.Cells.{is_leaf};
 ghost use Rattle.fa_core.specs.Folding.{symbol_slots};
-ghost use Rattle.fa_split.specs.Chosen.{StandsAtTop};
 ghost use Rattle.fa_unfold.specs.Unfolding.{AreTops, IsTop, have_no_slots, is_bare};
 
-use crate::slots::slots_of;
-use fa_core::cells::has;
-use fa_split::{roots_of, rules_of};
+use fa_core::cells::is_leaf;
+use fa_split::{rules_of, slots_of, stands_at_top};
 use fore_base::list::{Copies, List};
-use fore_base::marks::are_all_marked;
 use fore_base::memory::Mem;
 use std::alloc::Global;
 use ta_core::auto::{Auto, Rule};
@@ -43,23 +39,6 @@ fn is_top(auto: &Auto, marks: &[bool], rule: &Rule) -> bool
         return false;
     }
     stands_at_top(auto, marks, rule)
-}
-
-/// Whether the rule is of a root state, and its children have trees.
-fn stands_at_top(auto: &Auto, marks: &[bool], rule: &Rule) -> bool
-    requires { MarksOf auto.now.states (HasTree auto.now.rules) marks.now }
-    ensures { IsTrue result ↔ StandsAtTop auto.now rule.now }
-{
-    has(rule.state, roots_of(auto)) && are_all_marked(marks, rule.children.as_slice())
-}
-
-fn is_leaf(symbol: &Symbol) -> bool
-    ensures { result ≡ is_leaf symbol.now }
-{
-    match symbol {
-        Symbol::Cell { .. } => false,
-        _ => true,
-    }
 }
 
 /// Whether none of the rules has a slot.

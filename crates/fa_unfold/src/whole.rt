@@ -5,10 +5,10 @@ ghost use Rattle.fore_base.specs.Lists.{IsIn, Every};
 ghost use Rattle.fa_sound.specs.Soundness.{SoundForest};
 ghost use Rattle.fa_sound.specs.Unions.{forests};
 ghost use Rattle.fa_split.specs.Divided.{HasVarsOf};
-ghost use Rattle.fa_unfold.specs.Sites.{IsHookAt, IsLinkAtSlot};
+ghost use Rattle.fa_unfold.specs.Sites.{IsLinkAtSlot};
 ghost use Rattle.fa_unfold.specs.Unfolded.{UnfoldsFrom, UnfoldsInto};
 ghost use Rattle.fa_unfold.specs.UnfoldingOf.{CanUnfold, HaveMembersOf, IsUnfoldingOf};
-ghost use Rattle.fa_unfold.specs.inner.Cuts.{HasLinkAt, IsUnfolded, IsUnfoldedHook, IsUnfoldedLink, IsUnfoldedPart};
+ghost use Rattle.fa_unfold.specs.inner.Cuts.{HasLinkAt, IsUnfolded, IsUnfoldedPart};
 
 use crate::edges::{child_place, edge_at, end_of};
 use crate::tables::{replace_hook, replace_link};
@@ -61,30 +61,15 @@ fn unfold_edge(
     forest.known();
     match edge_at(forest.forest(), root, slot) {
         Slot::Link(number) => unfold_link_slot(alloc, forest, table, root, slot, number),
-        Slot::Hook(number) => unfold_hook_slot(alloc, forest, table, root, slot, number),
+        Slot::Hook(number) => {
+            let made = replace_hook(alloc, forest, table, root, slot, number)?;
+            Ok(made)
+        }
         Slot::Field(_) => unreachable!(),
     }
 }
 
-/// So for a Hook.
-fn unfold_hook_slot(
-    alloc: Global,
-    forest: &Sound,
-    table: &BoxTable,
-    root: u32,
-    slot: usize,
-    number: u32,
-) -> Mem<List<Sound>>
-    requires face { table.now.face ≡ forest.now.face }
-    requires at { IsHookAt forest.now.forest root slot number }
-    ensures each { IfOk result (Every (IsUnfolded table.now forest.now.forest root slot)) }
-    ensures whole { IfOk result (λ made. UnfoldsInto table.now.defs forest.now.forest root slot (forests made)) }
-{
-    let made = replace_hook(alloc, forest, table, root, slot, number)?;
-    Ok(made)
-}
-
-/// So for a Link, whose child is split first.
+/// So where it is a Link, whose child is split first.
 fn unfold_link_slot(
     alloc: Global,
     forest: &Sound,
@@ -123,26 +108,10 @@ fn unfold_parts(
 {
     let mut made = List::new(alloc);
     for part in parts {
-        let more = unfold_part(alloc, part, table, root, slot, number)?;
+        part.known();
+        let end = end_of(part.forest(), root, slot, number);
+        let more = replace_link(alloc, part, table, root, slot, number, end)?;
         made.append(more)?;
     }
     Ok(made)
-}
-
-fn unfold_part(
-    alloc: Global,
-    part: &Sound,
-    table: &BoxTable,
-    root: u32,
-    slot: usize,
-    number: u32,
-) -> Mem<List<Sound>>
-    requires face { table.now.face ≡ part.now.face }
-    requires at { HasLinkAt part.now.forest root slot number }
-    ensures each { IfOk result (Every (IsUnfoldedLink table.now part.now.forest root slot)) }
-    ensures whole { IfOk result (λ made. UnfoldsInto table.now.defs part.now.forest root slot (forests made)) }
-{
-    part.known();
-    let end = end_of(part.forest(), root, slot, number);
-    replace_link(alloc, part, table, root, slot, number, end)
 }

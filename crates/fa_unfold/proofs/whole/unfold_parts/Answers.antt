@@ -7,15 +7,16 @@ use Rattle.fa_unfold.specs.inner.Cuts.{HasLinkAt, IsUnfoldedPart}
 use Rattle.fa_unfold.proofs.UnfoldedEdges.{into_left, into_right, part_more, parts_of}
 use Rattle.fa_unfold.proofs.whole.unfold_parts.Goals as goal
 
-pub unfold_part-requires-clause-face : goal.unfold_part-requires-clause-face
-unfold_part-requires-clause-face c =
+pub replace_link-requires-clause-face : goal.replace_link-requires-clause-face
+replace_link-requires-clause-face c =
     every_at (λ (s : SoundForest). c.args.table.now.face ≡ s.face) c.args.parts.now c.loop-part.part-index
     c.part-item.result c.requires.face c.loop-part-test.true c.part-item.is
 
-pub unfold_part-requires-clause-at : goal.unfold_part-requires-clause-at
-unfold_part-requires-clause-at c =
-    every_at (λ (s : SoundForest). HasLinkAt s.forest c.args.root c.args.slot c.args.number) c.args.parts.now
-    c.loop-part.part-index c.part-item.result c.requires.at c.loop-part-test.true c.part-item.is
+pub end_of-end-requires-clause-at : goal.end_of-end-requires-clause-at
+end_of-end-requires-clause-at c =
+    rw c.forest.ensures
+    (every_at (λ (s : SoundForest). HasLinkAt s.forest c.args.root c.args.slot c.args.number) c.args.parts.now
+    c.loop-part.part-index c.part-item.result c.requires.at c.loop-part-test.true c.part-item.is)
 
 pub loop-part-preserved : goal.loop-part-preserved
 loop-part-preserved c =
