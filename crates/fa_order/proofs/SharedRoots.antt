@@ -16,14 +16,15 @@ use Rattle.fa_back.specs.Reached.{IsSignedBy}
 use Rattle.fa_back.proofs.ByMarks.{in_var_roots, var_roots_in}
 use Rattle.fa_back.proofs.RootMarks.{has_in, in_has}
 use Rattle.fa_merge.specs.Counts.{marks_count}
+use Rattle.fa_merge.specs.Signed.{IsSignatureOf}
 use Rattle.fa_merge.specs.inner.Counted.{sum_count}
+use Rattle.fa_merge.proofs.LeaksDecided.{signed_choice}
 use Rattle.fa_order.specs.Kinds.{IsSharedRoot, IsUnsharedRoot}
-use Rattle.fa_order.specs.inner.Backs.{IsSigned}
 use Rattle.fa_order.proofs.CountedMarks.{sum_marks, sums_are}
 use Rattle.fa_order.proofs.Following.{two_by_two}
-use Rattle.fa_order.proofs.SignedBacks.{choice_signed}
 
-module _ (bs : List BoxFace) (F : Forest) (ss : List Signature) (signed : Paired (IsSigned bs) F.autos ss) (r : ℕ) where
+module _ (bs : List BoxFace) (F : Forest) (ss : List Signature) (signed : Paired (IsSignatureOf bs) F.autos ss)
+    (r : ℕ) where
   sums : (ts : List Tree) (zs : List Signature) → Paired (IsSignedBy bs) ts zs → sum_count r zs ≡ sum_marks bs r ts
   sums [] [] h = refl
   sums [] (z ∷ zs) h = absurd h
@@ -31,7 +32,7 @@ module _ (bs : List BoxFace) (F : Forest) (ss : List Signature) (signed : Paired
   sums (t ∷ ts) (z ∷ zs) h = ap₂ (λ (a b : ℕ). a + b) (ap (marks_count r) (sym h.0)) (sums ts zs h.1)
 
   times : (ts : List Tree) → Choice F.autos ts → to_two (sum_count r ss) ≡ to_two (references ts r)
-  times ts c = ap to_two (sums ts ss (choice_signed bs F.autos ss signed ts c)) ∙ sums_are bs r ts
+  times ts c = ap to_two (sums ts ss (signed_choice bs F.autos ss ts signed c)) ∙ sums_are bs r ts
 
   abbrev test : Bool
   test = has r (var_roots F.vars) || nat_le 2 (sum_count r ss)

@@ -4,13 +4,11 @@ use Rattle.std.proofs.Common.{refl, sym, ap, subst, ◌∙◌, Some, slice_get}
 use Rattle.std.proofs.lemmas.Option.{none-some, same_Some}
 use Rattle.fore_base.specs.Lists.{IsIn, Paired}
 use Rattle.fore_base.proofs.ListLemmas.{in_map}
-use Rattle.ta_core.specs.Auto.{Automaton}
 use Rattle.ta_core.specs.declared.tree.Tree.{Tree}
 use Rattle.fa_back.specs.Reached.{IsSignedBy}
 use Rattle.fa_back.proofs.RootMarks.{in_once, in_to_root, to_root_in, back_any, any_of_back, mark_in, in_mark}
 use Rattle.fa_back.proofs.RootMarks.{way_led, led_way, reach_in_mark, mark_in_reach, reach_refers, flat_in}
 use Rattle.fa_core.specs.Canonical.{LeadsBack, RefersTo, provides, refs_at}
-use Rattle.fa_core.specs.Filled.{Choice}
 use Rattle.fa_core.specs.References.{tree_refs}
 use Rattle.fa_core.specs.Ways.{Way, ways, to_root, given, mark, signature}
 use Rattle.fa_core.specs.declared.faces.BoxFace.{BoxFace}
@@ -19,18 +17,11 @@ use Rattle.fa_core.specs.declared.signature.Signature.{Signature}
 use Rattle.fa_core.proofs.Permuted.{in_rearranged}
 use Rattle.fa_core.proofs.Rearranging.{back}
 use Rattle.fa_core.proofs.Sorting.{ordered}
-use Rattle.fa_order.specs.inner.Backs.{IsSigned, LeadsBy, GivesBy, SignLeads}
+use Rattle.fa_order.specs.inner.Backs.{LeadsBy, GivesBy, SignLeads}
 use Rattle.fa_order.proofs.RefsAt.{refs_got}
+use Rattle.fa_order.proofs.SameMarks.{paired_at}
 
 module _ (bs : List BoxFace) where
-  signed_at : (ts : List Tree) (ss : List Signature) (j : ℕ) (t : Tree) → Paired (IsSignedBy bs) ts ss
-      → slice_get ts j ≡ Some t → (s : Signature) × (slice_get ss j ≡ Some s) × IsSignedBy bs t s
-  signed_at [] ss j t p e = absurd (none-some t e)
-  signed_at (u ∷ ts) [] j t p e = absurd p
-  signed_at (u ∷ ts) (s ∷ ss) zero t p e =
-      (s, refl, subst (λ (z : Tree). IsSignedBy bs z s) (same_Some u t e) p.0)
-  signed_at (u ∷ ts) (s ∷ ss) (suc j) t p e = signed_at ts ss j t p.1 e
-
   tree_signed : (ts : List Tree) (ss : List Signature) (j : ℕ) (s : Signature) → Paired (IsSignedBy bs) ts ss
       → slice_get ss j ≡ Some s → (t : Tree) × (slice_get ts j ≡ Some t) × IsSignedBy bs t s
   tree_signed ts [] j s p e = absurd (none-some s e)
@@ -38,16 +29,6 @@ module _ (bs : List BoxFace) where
   tree_signed (t ∷ ts) (z ∷ ss) zero s p e =
       (t, refl, subst (λ (y : Signature). IsSignedBy bs t y) (same_Some z s e) p.0)
   tree_signed (t ∷ ts) (z ∷ ss) (suc j) s p e = tree_signed ts ss j s p.1 e
-
-  -- the signatures of components are those of any trees
-  pub choice_signed : (autos : List Automaton) (ss : List Signature) → Paired (IsSigned bs) autos ss → (ts : List Tree)
-      → Choice autos ts → Paired (IsSignedBy bs) ts ss
-  choice_signed [] [] h [] c = tt
-  choice_signed [] [] h (t ∷ ts) c = absurd c
-  choice_signed [] (s ∷ ss) h ts c = absurd h
-  choice_signed (a ∷ autos) [] h ts c = absurd h
-  choice_signed (a ∷ autos) (s ∷ ss) h [] c = absurd c
-  choice_signed (a ∷ autos) (s ∷ ss) h (t ∷ ts) c = (h.0 t c.0, choice_signed autos ss h.1 ts c.1)
 
   mark_root : (t : Tree) (k i : ℕ) (m : RefMark) → m ≡ mark bs (ways t) k → m.root ≡ i → k ≡ i
   mark_root t k i m e r = sym (ap (λ (x : RefMark). x.root) e) ∙ r
@@ -84,7 +65,7 @@ module _ (bs : List BoxFace) (ts : List Tree) (j : ℕ) (t : Tree) (at : slice_g
 module _ (bs : List BoxFace) (ts : List Tree) (ss : List Signature) (signed : Paired (IsSignedBy bs) ts ss) where
   pub leads_by : (i j r : ℕ) → LeadsBack bs ts i j r → LeadsBy ss i j r
   leads_by i j r l =
-      let s = signed_at bs ts ss j l.0 signed l.1 in
+      let s = paired_at (IsSignedBy bs) ts ss j l.0 signed l.1 in
       let m = leads_tree bs ts j l.0 l.1 i r l in
       (m.0, (s.0, s.1, subst (λ (ms : List RefMark). IsIn m.0 ms) s.2 m.1), m.2, m.3)
 
@@ -95,7 +76,7 @@ module _ (bs : List BoxFace) (ts : List Tree) (ss : List Signature) (signed : Pa
 
   pub gives_by : (i j f : ℕ) → provides bs ts i j f → GivesBy ss i j f
   gives_by i j f (t, e, h) =
-      let s = signed_at bs ts ss j t signed e in
+      let s = paired_at (IsSignedBy bs) ts ss j t signed e in
       let w = flat_in (λ (x : Way). given bs x.steps) (to_root i (ways t)) f h in
       let v = to_root_in i (ways t) w.0 w.1 in
       let refers : RefersTo t i = subst (λ (k : ℕ). RefersTo t k) v.1 (in_map (λ (x : Way). x.root) w.0 (ways t) v.0)

@@ -30,17 +30,19 @@ use Rattle.fa_sound.specs.Components.{component_at}
 use Rattle.fa_back.proofs.ByMarks.{in_var_roots, var_roots_in}
 use Rattle.fa_back.proofs.RootMarks.{in_once, once_in, way_led, reach_in_mark, reach_refers}
 use Rattle.fa_back.proofs.Dressable.{some_choice}
+use Rattle.fa_merge.specs.Signed.{IsSignatureOf}
+use Rattle.fa_merge.proofs.LeaksDecided.{signed_choice}
 use Rattle.fa_merge.proofs.Named.{choice_long, refers_below, var_below}
 use Rattle.fa_merge.proofs.OtherOrders.{counted_later}
 use Rattle.fa_order.specs.Placing.{IsWalkOrder, PlacingOn}
-use Rattle.fa_order.specs.inner.Backs.{AreLedWithin, GivesBy, IsSigned, LeadsBy, refs_of}
+use Rattle.fa_order.specs.inner.Backs.{AreLedWithin, GivesBy, LeadsBy, refs_of}
 use Rattle.fa_order.specs.inner.Stacks.{nth_refs}
 use Rattle.fa_order.proofs.BackDecided.{leads_decided}
 use Rattle.fa_order.proofs.GivenOnce.{given_once}
 use Rattle.fa_order.proofs.Places.{place_counted}
 use Rattle.fa_order.proofs.RefsAt.{refs_got, refs_every}
 use Rattle.fa_order.proofs.SameMarks.{signature_roots}
-use Rattle.fa_order.proofs.SignedBacks.{by_gives, by_leads, choice_signed, gives_by, leads_by, led_within}
+use Rattle.fa_order.proofs.SignedBacks.{by_gives, by_leads, gives_by, leads_by, led_within}
 use Rattle.fa_order.proofs.Visits.{IsBackGiving, same_placing, todo_placed, placed_closed, none_left, one_order}
 use Rattle.fa_order.proofs.Visits.{walk_is_order}
 use Rattle.fa_order.proofs.WalkBack.{walks_placed, placed_walks}
@@ -63,14 +65,15 @@ pub refs_long : (ss : List Signature) → length (refs_of ss) ≡ length ss
 refs_long [] = refl
 refs_long (s ∷ ss) = ap (λ (n : ℕ). suc n) (refs_long ss)
 
-every_listed : (P : List ℕ → Type 0) (rss : List (List ℕ)) → ((r : ℕ) → P (nth_refs rss r)) → Every P rss
+-- what holds of the references of each root holds of each list
+pub every_listed : (P : List ℕ → Type 0) (rss : List (List ℕ)) → ((r : ℕ) → P (nth_refs rss r)) → Every P rss
 every_listed P [] h = tt
 every_listed P (rs ∷ rss) h = (h 0, every_listed P rss (λ r. h (suc r)))
 
-module _ (face : Face) (F : Forest) (ss : List Signature) (signed : Paired (IsSigned face.boxes) F.autos ss) where
+module _ (face : Face) (F : Forest) (ss : List Signature) (signed : Paired (IsSignatureOf face.boxes) F.autos ss) where
   module _ (ts : List Tree) (c : Choice F.autos ts) where
     trees : Paired (IsSignedBy face.boxes) ts ss
-    trees = choice_signed face.boxes F.autos ss signed ts c
+    trees = signed_choice face.boxes F.autos ss ts signed c
 
     walk_here : (order : List ℕ) → PlacingOn (nth_refs (refs_of ss)) (LeadsBy ss) (GivesBy ss) (var_roots F.vars) []
         order
@@ -100,7 +103,7 @@ module _ (face : Face) (F : Forest) (sound : IsSound face F) where
       (λ t e. in_every (λ k. k < size) (roots_met (ways t))
       (λ k i. refers_below face F sound.well_formed.filled ts c r k t e (once_in k (tree_refs t) i)))
 
-  module _ (ss : List Signature) (signed : Paired (IsSigned face.boxes) F.autos ss) where
+  module _ (ss : List Signature) (signed : Paired (IsSignatureOf face.boxes) F.autos ss) where
     pub all_refs_below : Every (AllBelow size) (refs_of ss)
     all_refs_below =
         let c = some_choice F.autos sound.full in

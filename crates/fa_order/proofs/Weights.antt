@@ -1,9 +1,9 @@
 -- The walk ends: each visit takes away from the visits that are left.
 use Rattle.std.proofs.Common.{◌≡◌, ◌≢◌, ℕ, zero, suc, ◌<◌, ◌≤◌, ◌+◌, ◌-◌, take, get_or, append_assoc, Bool, true, false}
 use Rattle.std.proofs.Common.{◌||◌, true≢false, nat_eq, cond, length, List, [], ◌∷◌, ◌++◌, refl, sym, ap, subst, ◌∙◌}
-use Rattle.std.proofs.Common.{slice_get, Some, not-suc-le-zero, le_of_suc-le-suc, arith}
+use Rattle.std.proofs.Common.{reverse, slice_get, Some, not-suc-le-zero, le_of_suc-le-suc, arith}
 use Rattle.std.proofs.lemmas.Bool.{eqb-true, eq-eqb}
-use Rattle.std.proofs.lemmas.List.{length-append, take_more}
+use Rattle.std.proofs.lemmas.List.{length-append, reverse-append, take_more}
 use Rattle.std.proofs.lemmas.Option.{none-some, same_Some}
 use Rattle.fore_base.specs.Lists.{Every}
 use Rattle.fa_core.specs.References.{AllBelow}
@@ -12,11 +12,11 @@ use Rattle.fa_back.proofs.RootMarks.{has_in, in_has}
 use Rattle.fa_core.specs.declared.signature.Signature.{Signature}
 use Rattle.fa_order.specs.Placing.{PlacingOn, is_placed, place_now}
 use Rattle.fa_order.specs.inner.Backs.{GivesBy, LeadsBy}
-use Rattle.fa_order.specs.inner.Stacks.{behind, nth_refs, unplaced, weight}
+use Rattle.fa_order.specs.inner.Stacks.{nth_refs, unplaced, weight}
 
-pub behind_last : (xs : List ℕ) (x : ℕ) → behind (xs ++ x ∷ []) ≡ x ∷ behind xs
-behind_last [] x = refl
-behind_last (y ∷ xs) x = ap (λ (z : List ℕ). z ++ y ∷ []) (behind_last xs x)
+-- a stack from its top down, with one root more
+pub reverse_last : (xs : List ℕ) (x : ℕ) → reverse (xs ++ x ∷ []) ≡ x ∷ reverse xs
+reverse_last xs x = reverse-append xs (x ∷ [])
 
 pub nth_got : (rss : List (List ℕ)) (r : ℕ) (rs : List ℕ) → slice_get rss r ≡ Some rs → rs ≡ nth_refs rss r
 nth_got [] r rs e = absurd (none-some rs e)

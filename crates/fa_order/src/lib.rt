@@ -15,5 +15,7 @@ mod ways_back;
 
 pub use deciding::{has_root_kinds, is_canonical};
 pub use reducing::reduce_forest;
+pub use referring::{marked_roots, references, root_signatures};
 pub use roots::place_roots;
 pub use sharing::is_shared_root;
+pub use walking::push_all;

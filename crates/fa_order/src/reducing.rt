@@ -41,14 +41,26 @@ pub fn reduce_forest<R: Threads + Sync, G: Gate>(
 {
     forest.known();
     let autos = reduced_autos(rt, alloc, forest.forest().autos.as_slice(), crew)?;
-    let vars = forest.forest().vars.copy(alloc)?;
-    let data_vars = forest.forest().data_vars.copy(alloc)?;
-    let made = Forest {
+    let made = with_autos(alloc, forest.forest(), autos)?;
+    Sound::of(alloc, made, forest.face())
+}
+
+/// The forest with other components. Err is want of memory.
+fn with_autos(alloc: Global, forest: &Forest, autos: List<Auto>) -> Mem<Forest>
+    ensures { IfOk result (λ made. made
+        ≡ record {
+          autos = autos;
+          vars = forest.now.vars;
+          data_vars = forest.now.data_vars;
+        }) }
+{
+    let vars = forest.vars.copy(alloc)?;
+    let data_vars = forest.data_vars.copy(alloc)?;
+    Ok(Forest {
         autos,
         vars,
         data_vars,
-    };
-    Sound::of(alloc, made, forest.face())
+    })
 }
 
 fn reduced_autos<R: Threads + Sync, G: Gate>(

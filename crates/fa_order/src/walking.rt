@@ -1,12 +1,12 @@
 // The walk that places the roots, by a stack of roots to be visited and by ways back where it is empty.
 
-ghost use Rattle.std.specs.Prelude.{◌≡◌, ◌<◌, ◌^◌, ◌++◌, ◌∷◌, [], ℕ, List, length, IfOk, OnOk};
+ghost use Rattle.std.specs.Prelude.{◌≡◌, ◌<◌, ◌^◌, ◌++◌, ◌∷◌, [], ℕ, List, length, IfOk, OnOk, reverse};
 ghost use Rattle.fore_base.specs.Lists.{IsIn, Every};
 ghost use Rattle.fa_core.specs.References.{AllBelow};
 ghost use Rattle.fa_core.specs.declared.signature.Signature.{Signature};
 ghost use Rattle.fa_order.specs.Placing.{PlacingOn};
 ghost use Rattle.fa_order.specs.inner.Backs.{AreLedWithin, GivesBy, IsNext, LeadsBy};
-ghost use Rattle.fa_order.specs.inner.Stacks.{behind, nth_refs, weight};
+ghost use Rattle.fa_order.specs.inner.Stacks.{nth_refs, weight};
 
 use crate::ways_back::next_led;
 use fa_core::cells::has;
@@ -51,7 +51,7 @@ fn next_visit(
     requires long { length signatures.now ≡ length refers.now }
     requires few { length signatures.now < 2 ^ 32 }
     requires within { AreLedWithin signatures.now refers.now }
-    ensures { IsNext signatures.now refers.now placed.now (behind stack.old) (behind stack.new) result }
+    ensures { IsNext signatures.now refers.now placed.now (reverse stack.old) (reverse stack.new) result }
 {
     match stack.pop() {
         Some(root) => Some(root),
@@ -68,14 +68,14 @@ fn visit(
 ) -> Mem<()>
     requires { root < length refers.now }
     ensures goes { OnOk result ((ss : List Signature) (order : List ℕ)
-        → PlacingOn (nth_refs refers.now) (LeadsBy ss) (GivesBy ss) (behind stack.new) placed.new order
-        → PlacingOn (nth_refs refers.now) (LeadsBy ss) (GivesBy ss) (root ∷ behind stack.old) placed.old order) }
-    ensures falls { OnOk result (weight refers.now (behind stack.new) placed.new
-        < weight refers.now (root ∷ behind stack.old) placed.old) }
-    ensures anew { OnOk result ((IsIn root placed.old → ⊥) → weight refers.now (behind stack.new) placed.new
-        < weight refers.now (behind stack.old) placed.old) }
+        → PlacingOn (nth_refs refers.now) (LeadsBy ss) (GivesBy ss) (reverse stack.new) placed.new order
+        → PlacingOn (nth_refs refers.now) (LeadsBy ss) (GivesBy ss) (root ∷ reverse stack.old) placed.old order) }
+    ensures falls { OnOk result (weight refers.now (reverse stack.new) placed.new
+        < weight refers.now (root ∷ reverse stack.old) placed.old) }
+    ensures anew { OnOk result ((IsIn root placed.old → ⊥) → weight refers.now (reverse stack.new) placed.new
+        < weight refers.now (reverse stack.old) placed.old) }
     ensures below { OnOk result (Every (AllBelow (length refers.now)) refers.now
-        → AllBelow (length refers.now) (behind stack.old) → AllBelow (length refers.now) (behind stack.new)) }
+        → AllBelow (length refers.now) (reverse stack.old) → AllBelow (length refers.now) (reverse stack.new)) }
 {
     if has(root, placed.as_slice()) {
         Ok(())
@@ -88,16 +88,16 @@ fn visit(
 
 fn push_refs(stack: &mut List<u32>, refers: &List<List<u32>>, root: u32) -> Mem<()>
     requires { root < length refers.now }
-    ensures { OnOk result (behind stack.new ≡ nth_refs refers.now root ++ behind stack.old) }
+    ensures { OnOk result (reverse stack.new ≡ nth_refs refers.now root ++ reverse stack.old) }
 {
     push_all(stack, refers.at(root as usize).as_slice())?;
     Ok(())
 }
 
-/// Puts the roots on the stack so that the first of them is on top.
-#[tactic(auto, using(crate::proofs::Weights::behind_last))]
-fn push_all(stack: &mut List<u32>, roots: &[u32]) -> Mem<()>
-    ensures { OnOk result (behind stack.new ≡ roots.now ++ behind stack.old) }
+/// Puts the roots on the stack so that the first of them is on top. Err is want of memory.
+#[tactic(auto, using(crate::proofs::Weights::reverse_last))]
+pub fn push_all(stack: &mut List<u32>, roots: &[u32]) -> Mem<()>
+    ensures { OnOk result (reverse stack.new ≡ roots.now ++ reverse stack.old) }
 {
     for place in (0..roots.len()).rev() {
         stack.push(roots[place])?;

@@ -1,9 +1,9 @@
 -- What the picked slots of a root's trees refer to, by what the trees of their states refer to.
-use Rattle.std.proofs.Common.{◌≡◌, ℕ, ◌<◌, Bool, List, [], ◌∷◌, ◌++◌, map, flat_map, refl, sym, ap}
-use Rattle.std.proofs.Common.{ap₂, subst, ◌∙◌, Option}
-use Rattle.std.proofs.Common.{Some}
+use Rattle.std.proofs.Common.{◌≡◌, ℕ, ◌<◌, Bool, true, false, List, [], ◌∷◌, ◌++◌, map, flat_map, refl, sym, ap}
+use Rattle.std.proofs.Common.{ap₂, subst, ◌∙◌, append-nil, append_assoc, Option, Some}
+use Rattle.std.proofs.lemmas.Option.{same_Some}
 use Rattle.fore_base.specs.Lists.{Every, Paired}
-use Rattle.fore_base.proofs.ListLemmas.{every_in}
+use Rattle.fore_base.proofs.ListLemmas.{every_in, paired_push}
 use Rattle.ta_core.specs.Auto.{Automaton, IsRanked, IsRankedRule}
 use Rattle.ta_core.specs.Language.{RunEach, InLanguage, run_none, run_more}
 use Rattle.ta_core.specs.Single.{HasOneTop}
@@ -16,14 +16,28 @@ use Rattle.fa_core.specs.Ways.{once}
 use Rattle.fa_sound.specs.Soundness.{IsStateOf}
 use Rattle.fa_split.specs.Split.{top_rule}
 use Rattle.fa_split.proofs.TopRules.{tree_by_top, top_in}
-use Rattle.fa_part.specs.inner.Edges.{picked, top_edges, is_left}
-use Rattle.fa_part.specs.inner.Referring.{AreEdgeRefs, AreStateRefs}
+use Rattle.fa_part.specs.inner.Edges.{picked, top_edges, is_left, is_picked}
+use Rattle.fa_part.specs.inner.Referring.{AreEdgeRefs, ArePickedRefs, AreStateRefs}
 use Rattle.fa_part.specs.inner.Thin.{Thin}
 use Rattle.fa_part.proofs.Picked.{runs_picked, taken_refs, left_refs_are, refs_in, every_picked}
 use Rattle.fa_part.proofs.Thinned.{flat_thin}
 
 abbrev items_in : {X : Type 0} → List (Slot × X) → List X
 items_in es = map (λ e. e.1) es
+
+flat_push : (rss : List (List ℕ)) (rs : List ℕ) → flat_map (λ x. x) rss ++ rs ≡ flat_map (λ x. x) (rss ++ rs ∷ [])
+flat_push [] rs = sym (append-nil rs)
+flat_push (x ∷ rss) rs =
+    append_assoc x (flat_map (λ x. x) rss) rs ∙ ap (λ (l : List ℕ). x ++ l) (flat_push rss rs)
+
+-- one state more
+pub edges_more : (o : Option Automaton) (qs rs : List ℕ) (q : ℕ) (more : List ℕ) → AreEdgeRefs o qs rs
+    → AreStateRefs o q more → AreEdgeRefs o (qs ++ q ∷ []) (rs ++ more)
+edges_more o qs rs q more h k = (
+  h.0 ++ more ∷ [],
+  paired_push (AreStateRefs o) qs h.0 q more h.1 k,
+  ap (λ (l : List ℕ). l ++ more) h.2 ∙ flat_push h.0 more,
+)
 
 module _ (o : Option Automaton) (a : Automaton) (at : o ≡ Some a) where
   -- the lists are those of the trees
@@ -56,19 +70,28 @@ module _ (o : Option Automaton) (a : Automaton) (at : o ≡ Some a) where
         flat_items [] = refl
         flat_items (u ∷ us) = ap (λ (l : List ℕ). once (tree_refs u.1) ++ l) (flat_items us)
 
-  pub taken_thin : (one : HasOneTop a) (fs : List ℕ) (rs : List ℕ)
+  taken_thin : (one : HasOneTop a) (fs : List ℕ) (rs : List ℕ)
       → AreEdgeRefs o (items_in (top_edges (is_one_of fs) a)) rs → (t : Tree) → InLanguage a t
       → Thin [] (place_refs (taken fs (top_places t))) rs
   taken_thin one fs rs h t i = subst (λ (l : List ℕ). Thin [] l rs)
       (sym (taken_refs fs (symbol_slots (out-Tree t).symbol) (out-Tree t).children))
       (picked_thin one (is_one_of fs) rs h t i)
 
-  pub left_thin : (one : HasOneTop a) (fs : List ℕ) (rs : List ℕ)
+  left_thin : (one : HasOneTop a) (fs : List ℕ) (rs : List ℕ)
       → AreEdgeRefs o (items_in (top_edges (is_left fs) a)) rs → (t : Tree) → InLanguage a t
       → Thin [] (place_refs (left fs (top_places t))) rs
   left_thin one fs rs h t i = subst (λ (l : List ℕ). Thin [] l rs)
       (sym (left_refs_are fs (symbol_slots (out-Tree t).symbol) (out-Tree t).children))
       (picked_thin one (is_left fs) rs h t i)
+
+  mine : (x : Automaton) (t : Tree) → o ≡ Some x → InLanguage x t → InLanguage a t
+  mine x t e i = subst (λ (z : Automaton). InLanguage z t) (same_Some x a (sym e ∙ at)) i
+
+  -- what the trees of the states of the picked slots refer to is what those slots do
+  pub picked_are : HasOneTop a → (picks : Bool) (fs rs : List ℕ)
+      → AreEdgeRefs o (items_in (top_edges (is_picked picks fs) a)) rs → ArePickedRefs picks o fs rs
+  picked_are one true fs rs h = λ x t e i. taken_thin one fs rs h t (mine x t e i)
+  picked_are one false fs rs h = λ x t e i. left_thin one fs rs h t (mine x t e i)
 
   -- the states of the picked slots are states of the automaton
   pub edge_states : HasOneTop a → IsRanked a → (p : Slot → Bool) → Every (IsStateOf o) (items_in (top_edges p a))

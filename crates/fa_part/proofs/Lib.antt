@@ -10,6 +10,7 @@ pub mod PortCells
 pub mod PortCovers
 pub mod PortLists
 pub mod Sharing
+pub mod SignedRefs
 pub mod TablePorts
 pub mod Thinned
 pub mod TopRefs

@@ -12,7 +12,7 @@ use Rattle.fa_core.specs.declared.faces.Face.{Face}
 use Rattle.fa_core.specs.declared.forest.Forest.{Forest}
 use Rattle.fa_back.proofs.Dressable.{some_choice}
 use Rattle.fa_order.specs.inner.Stacks.{nth_refs}
-use Rattle.fa_order.proofs.WalkOrder.{refs_below}
+use Rattle.fa_order.proofs.WalkOrder.{every_listed, refs_below}
 use Rattle.fa_part.specs.inner.Found.{IsPartOrder}
 use Rattle.fa_part.specs.inner.Referring.{AreRootRefs}
 use Rattle.fa_part.proofs.Thinned.{goes_on, same_walk, thick, thin_same}
@@ -27,10 +27,6 @@ listed (a ∷ autos) [] ts h c r = absurd h
 listed (a ∷ autos) (rs ∷ rss) [] h c r = absurd c
 listed (a ∷ autos) (rs ∷ rss) (t ∷ ts) h c zero = h.0 t c.0
 listed (a ∷ autos) (rs ∷ rss) (t ∷ ts) h c (suc r) = listed autos rss ts h.1 c.1 r
-
-every_listed : (P : List ℕ → Type 0) (rss : List (List ℕ)) → ((r : ℕ) → P (nth_refs rss r)) → Every P rss
-every_listed P [] h = tt
-every_listed P (rs ∷ rss) h = (h 0, every_listed P rss (λ r. h (suc r)))
 
 module _ (F : Forest) (rss : List (List ℕ)) (refs : Paired AreRootRefs F.autos rss) where
   -- the components refer to roots that are there

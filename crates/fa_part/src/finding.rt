@@ -9,7 +9,7 @@ ghost use Rattle.fa_part.specs.Ports.{AreInnerRoots, IsPortOf, ports_of};
 ghost use Rattle.fa_part.specs.inner.Found.{ArePortRefs, IsAlone, IsNotAt, RefersInside};
 
 use crate::ports::{Port, roots_of, taken_at};
-use crate::referring::{component_refs, left_refs, taken_refs};
+use crate::referring::{component_refs, picked_refs};
 use crate::visiting::inner_roots;
 use fa_core::forest::Target;
 use fa_filling::is_one_of;
@@ -50,7 +50,7 @@ fn port_refs(alloc: Global, forest: &Sound, ports: &[Port]) -> Mem<List<u32>>
 {
     let mut made = List::new(alloc);
     for port in ports {
-        made.append(taken_refs(alloc, forest, port.root, port.fields.as_slice())?)?;
+        made.append(picked_refs(alloc, forest, port.root, true, port.fields.as_slice())?)?;
     }
     Ok(made)
 }
@@ -125,7 +125,7 @@ fn outer_refs(alloc: Global, forest: &Sound, ports: &[Port], root: u32) -> Mem<L
     if fields.is_empty() {
         component_refs(alloc, forest, root)
     } else {
-        left_refs(alloc, forest, root, fields.as_slice())
+        picked_refs(alloc, forest, root, false, fields.as_slice())
     }
 }
 

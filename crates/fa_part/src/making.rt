@@ -1,15 +1,15 @@
 // Automata with other numbers in their references.
 
-ghost use Rattle.std.specs.Prelude.{◌≡◌, ◌<◌, ◌^◌, length, map, IfOk};
+ghost use Rattle.std.specs.Prelude.{◌≡◌, ◌<◌, ◌^◌, length, IfOk};
 ghost use Rattle.fa_core.specs.Folding.{position};
-ghost use Rattle.fa_core.specs.Placed.{placed_rule, placed_symbol};
-ghost use Rattle.fa_core.specs.declared.forest.Target.TheVariants.{At};
 ghost use Rattle.ta_core.specs.Single.{HasOneTop};
 ghost use Rattle.fa_part.specs.inner.Automata.{moved_auto, port_auto, port_rule};
 
-use crate::edges::{children_of, slots_of, taken_edges};
+use crate::edges::{children_of, picked_edges, slots_in};
+use fa_core::forest::Target;
+use fa_merge::placing::{Leaves, place_auto, place_rules};
 use fa_split::{one_root, states_of};
-use fore_base::list::{Copies, List};
+use fore_base::list::List;
 use fore_base::memory::Mem;
 use std::alloc::Global;
 use ta_core::auto::{Auto, Rule};
@@ -31,18 +31,31 @@ fn position(order: &[u32], root: u32) -> u32
     place
 }
 
+/// For each root its place in an order.
+#[derive(Drop)]
+struct Positions<'a> {
+    order: &'a [u32],
+    ghost few: { length order.now < 2 ^ 32 },
+}
+
+impl Leaves for Positions<'_> {
+    ghost use Rattle.fa_core.specs.Folding.{position};
+    ghost use Rattle.fa_core.specs.declared.forest.Target.TheVariants.{At};
+
+    ghost leaf_of = { λ positions k. At (position positions.order.now k) };
+
+    fn leaf(&self, root: u32) -> Mem<Target> {
+        Ok(Target::At(position(self.order, root)))
+    }
+}
+
 /// The automaton of the trees whose references are the places of their roots in the order. Err is want of memory.
 pub fn moved(alloc: Global, auto: &Auto, order: &[u32]) -> Mem<Auto>
     requires { length order.now < 2 ^ 32 }
     ensures { IfOk result (λ made. made ≡ moved_auto (position order.now) auto.now) }
 {
-    let roots = auto.roots.copy(alloc)?;
-    let rules = moved_rules(alloc, auto.rules.as_slice(), order)?;
-    Ok(Auto {
-        states: auto.states,
-        roots,
-        rules,
-    })
+    let positions = Positions { order };
+    place_auto(alloc, auto, &positions)
 }
 
 /// The automaton of a port of this struct with these fields: the trees of this automaton with the slots of the fields
@@ -56,7 +69,8 @@ pub fn ported(alloc: Global, auto: &Auto, shape: u32, fields: &[u32], order: &[u
     auto.known();
     let states = room(auto, 1)?;
     let roots = one_root(alloc, states_of(auto))?;
-    let mut rules = moved_rules(alloc, auto.rules.as_slice(), order)?;
+    let positions = Positions { order };
+    let mut rules = place_rules(alloc, auto.rules.as_slice(), &positions)?;
     rules.push(port_rule(alloc, auto, shape, fields)?)?;
     Ok(Auto {
         states,
@@ -70,8 +84,8 @@ fn port_rule(alloc: Global, auto: &Auto, shape: u32, fields: &[u32]) -> Mem<Rule
     requires { HasOneTop auto.now }
     ensures { IfOk result (λ made. made ≡ port_rule shape fields.now auto.now) }
 {
-    let edges = taken_edges(alloc, auto, fields)?;
-    let slots = slots_of(alloc, edges.as_slice())?;
+    let edges = picked_edges(alloc, auto, true, fields)?;
+    let slots = slots_in(alloc, edges.as_slice())?;
     let children = children_of(alloc, edges.as_slice())?;
     Ok(Rule {
         state: states_of(auto),
@@ -82,36 +96,4 @@ fn port_rule(alloc: Global, auto: &Auto, shape: u32, fields: &[u32]) -> Mem<Rule
         },
         children,
     })
-}
-
-fn moved_rules(alloc: Global, rules: &[Rule], order: &[u32]) -> Mem<List<Rule>>
-    requires { length order.now < 2 ^ 32 }
-    ensures { IfOk result (λ made. made ≡ map (placed_rule (λ k. At (position order.now k))) rules.now) }
-{
-    let mut made = List::new(alloc);
-    for rule in rules {
-        made.push(moved_rule(alloc, rule, order)?)?;
-    }
-    Ok(made)
-}
-
-fn moved_rule(alloc: Global, rule: &Rule, order: &[u32]) -> Mem<Rule>
-    requires { length order.now < 2 ^ 32 }
-    ensures { IfOk result (λ made. made ≡ placed_rule (λ k. At (position order.now k)) rule.now) }
-{
-    Ok(Rule {
-        state: rule.state,
-        symbol: moved_symbol(alloc, &rule.symbol, order)?,
-        children: rule.children.copy(alloc)?,
-    })
-}
-
-fn moved_symbol(alloc: Global, symbol: &Symbol, order: &[u32]) -> Mem<Symbol>
-    requires { length order.now < 2 ^ 32 }
-    ensures { IfOk result (λ made. made ≡ placed_symbol (λ k. At (position order.now k)) symbol.now) }
-{
-    match symbol {
-        Symbol::Ref(root) => Ok(Symbol::Ref(position(order, *root))),
-        _ => symbol.copy(alloc),
-    }
 }

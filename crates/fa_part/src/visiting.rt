@@ -1,14 +1,15 @@
 // The walk that finds the roots of a part.
 
-ghost use Rattle.std.specs.Prelude.{◌≡◌, ◌<◌, ◌≤◌, ◌∷◌, ◌++◌, ℕ, List, drop, length, IfOk, OnOk};
+ghost use Rattle.std.specs.Prelude.{◌≡◌, ◌<◌, ◌≤◌, ◌∷◌, ◌++◌, ℕ, List, drop, length, IfOk, OnOk, reverse};
 ghost use Rattle.fore_base.specs.Lists.{Every};
 ghost use Rattle.fa_core.specs.Folding.{Placing};
 ghost use Rattle.fa_core.specs.References.{AllBelow};
-ghost use Rattle.fa_order.specs.inner.Stacks.{behind, nth_refs, weight};
+ghost use Rattle.fa_order.specs.inner.Stacks.{nth_refs, weight};
 ghost use Rattle.fa_part.specs.inner.Found.{IsPartOrder};
 
 use crate::referring::root_refs;
 use fa_core::cells::has;
+use fa_order::push_all;
 use fa_sound::Sound;
 use fore_base::list::{Copies, List};
 use fore_base::memory::Mem;
@@ -75,12 +76,12 @@ fn visit(
 ) -> Mem<()>
     requires { root < length refers.now }
     ensures goes { OnOk result ((order : List ℕ)
-        → Placing (nth_refs refers.now) (behind stack.new) placed.new order
-        → Placing (nth_refs refers.now) (root ∷ behind stack.old) placed.old order) }
-    ensures falls { OnOk result (weight refers.now (behind stack.new) placed.new
-        < weight refers.now (root ∷ behind stack.old) placed.old) }
+        → Placing (nth_refs refers.now) (reverse stack.new) placed.new order
+        → Placing (nth_refs refers.now) (root ∷ reverse stack.old) placed.old order) }
+    ensures falls { OnOk result (weight refers.now (reverse stack.new) placed.new
+        < weight refers.now (root ∷ reverse stack.old) placed.old) }
     ensures below { OnOk result (Every (AllBelow (length refers.now)) refers.now
-        → AllBelow (length refers.now) (behind stack.old) → AllBelow (length refers.now) (behind stack.new)) }
+        → AllBelow (length refers.now) (reverse stack.old) → AllBelow (length refers.now) (reverse stack.new)) }
 {
     if has(root, placed.as_slice()) {
         Ok(())
@@ -93,19 +94,8 @@ fn visit(
 
 fn push_refs(stack: &mut List<u32>, refers: &List<List<u32>>, root: u32) -> Mem<()>
     requires { root < length refers.now }
-    ensures { OnOk result (behind stack.new ≡ nth_refs refers.now root ++ behind stack.old) }
+    ensures { OnOk result (reverse stack.new ≡ nth_refs refers.now root ++ reverse stack.old) }
 {
     push_all(stack, refers.at(root as usize).as_slice())?;
-    Ok(())
-}
-
-/// Puts the roots on the stack so that the first of them is on top.
-#[tactic(auto, using(fa_order::proofs::Weights::behind_last))]
-fn push_all(stack: &mut List<u32>, roots: &[u32]) -> Mem<()>
-    ensures { OnOk result (behind stack.new ≡ roots.now ++ behind stack.old) }
-{
-    for place in (0..roots.len()).rev() {
-        stack.push(roots[place])?;
-    }
     Ok(())
 }

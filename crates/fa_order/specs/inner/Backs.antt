@@ -20,22 +20,13 @@ use Rattle.std.specs.Prelude.{
   MatchOption,
 }
 use Rattle.fore_base.specs.Lists.{IsIn, Every}
-use Rattle.ta_core.specs.Auto.{Automaton}
-use Rattle.ta_core.specs.Language.{InLanguage}
-use Rattle.ta_core.specs.declared.tree.Tree.{Tree}
 use Rattle.fa_back.specs.Reached.{IsMarkAt}
 use Rattle.fa_core.specs.Cells.{roots_in}
-use Rattle.fa_core.specs.Ways.{signature}
-use Rattle.fa_core.specs.declared.faces.BoxFace.{BoxFace}
 use Rattle.fa_core.specs.declared.signature.RefMark.{RefMark}
 use Rattle.fa_core.specs.declared.signature.Signature.{Signature}
 use Rattle.fa_order.specs.declared.ways_back.Giver.{Giver}
 use Rattle.fa_order.specs.Placing.{GoesOnFrom, IsStuck, NoneOpen}
 use Rattle.fa_order.specs.inner.Stacks.{nth_refs}
-
--- each tree of the component has the signature
-abbrev pub IsSigned : List BoxFace → Automaton → Signature → Type 0
-IsSigned bs a s = (t : Tree) → InLanguage a t → signature bs t ≡ s.refs
 
 -- for each signature the roots of its marks
 abbrev pub refs_of : List Signature → List (List ℕ)

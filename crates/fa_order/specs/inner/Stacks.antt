@@ -1,11 +1,6 @@
--- What the code of the walk holds: a stack of roots to be visited, and the roots to which each root refers.
-use Rattle.std.specs.Prelude.{ℕ, zero, suc, ◌+◌, if◌then◌else◌, List, [], ◌∷◌, ◌++◌, length}
+-- The roots to which each root refers, as the code of the walk holds them, and how many visits are left.
+use Rattle.std.specs.Prelude.{ℕ, zero, suc, ◌+◌, if◌then◌else◌, List, [], ◌∷◌, length}
 use Rattle.fa_core.specs.Ways.{has}
-
--- the stack from its top down
-abbrev pub behind : List ℕ → List ℕ
-behind [] = []
-behind (x ∷ xs) = behind xs ++ x ∷ []
 
 -- the roots to which root r refers, in the order of first visit
 abbrev pub nth_refs : List (List ℕ) → ℕ → List ℕ

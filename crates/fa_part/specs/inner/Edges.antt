@@ -1,5 +1,5 @@
 -- The slots at the top of a root's one rule that have a child, each with the state of the child.
-use Rattle.std.specs.Prelude.{ℕ, not, Bool, filter, List}
+use Rattle.std.specs.Prelude.{ℕ, not, Bool, true, false, filter, List}
 use Rattle.ta_core.specs.Auto.{Automaton}
 use Rattle.ta_core.specs.declared.symbol.Slot.{Slot}
 use Rattle.fa_core.specs.Cells.{edges}
@@ -21,3 +21,8 @@ top_edges p a = picked p (symbol_slots (top_rule a).symbol) (top_rule a).childre
 -- the slot is none of these fields
 abbrev pub is_left : List ℕ → Slot → Bool
 is_left fs s = not (is_one_of fs s)
+
+-- the slots to pick: those that are one of these fields, where they are taken, and else the others
+abbrev pub is_picked : Bool → List ℕ → Slot → Bool
+is_picked true fs = is_one_of fs
+is_picked false fs = is_left fs

@@ -1,5 +1,5 @@
 -- The roots to which trees refer, as the code finds them.
-use Rattle.std.specs.Prelude.{◌≡◌, ℕ, List, [], flat_map, Option, Some}
+use Rattle.std.specs.Prelude.{◌≡◌, ℕ, Bool, true, false, List, [], flat_map, Option, Some}
 use Rattle.fore_base.specs.Lists.{Paired}
 use Rattle.ta_core.specs.Auto.{Automaton}
 use Rattle.ta_core.specs.Language.{InLanguage, RunOf}
@@ -29,3 +29,8 @@ AreTakenRefs o fs rs = (a : Automaton) (t : Tree) → o ≡ Some a → InLanguag
 abbrev pub AreLeftRefs : Option Automaton → List ℕ → List ℕ → Type 0
 AreLeftRefs o fs rs = (a : Automaton) (t : Tree) → o ≡ Some a → InLanguage a t
     → Thin [] (place_refs (left fs (top_places t))) rs
+
+-- the first of these, where the fields are taken, and else the second
+abbrev pub ArePickedRefs : Bool → Option Automaton → List ℕ → List ℕ → Type 0
+ArePickedRefs true = AreTakenRefs
+ArePickedRefs false = AreLeftRefs

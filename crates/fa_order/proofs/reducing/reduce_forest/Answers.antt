@@ -1,14 +1,12 @@
-use Rattle.std.proofs.Common.{◌≡◌, ◌∙◌, List, ap₂, sym, subst}
+use Rattle.std.proofs.Common.{◌≡◌, ◌∙◌, sym, subst}
 use Rattle.std.proofs.lemmas.Result.{IfOk-weaker}
 use Rattle.fore_base.specs.Lists.{Every, Paired}
-use Rattle.fore_base.specs.declared.store.Datum.{Datum}
 use Rattle.fa_core.specs.Boxless.{HasNoBoxes}
 use Rattle.fa_core.specs.Canonical.{IsCanonical}
 use Rattle.fa_core.specs.Covering.{Covers, Reduced}
 use Rattle.fa_core.specs.Filled.{IsSound}
 use Rattle.fa_core.specs.declared.faces.Face.{Face}
 use Rattle.fa_core.specs.declared.forest.Forest.{Forest}
-use Rattle.fa_core.specs.declared.forest.Target.{Target}
 use Rattle.fa_order.specs.inner.Reduced.{IsReduction}
 use Rattle.fa_order.proofs.BothOk.{both_ok}
 use Rattle.fa_order.proofs.Reduced.{G, covers_first, first_covers, is_reduced, plain_made, sound_made, canonical_made}
@@ -20,18 +18,8 @@ of-requires g c =
     let face = c.args.forest.now.face in
     let h : Paired IsReduction F.autos c.in_ok-autos.autos = rw (c.as_slice.ensures, c.forest.ensures) at
     c.in_ok-autos.ensures.reductions in
-    let vars : c.in_ok-vars.vars ≡ F.vars = rw c.forest-2.ensures at c.in_ok-vars.ensures in
-    let datums : c.in_ok-data_vars.data_vars ≡ F.data_vars = rw c.forest-3.ensures at c.in_ok-data_vars.ensures in
-    let made : record { autos = c.in_ok-autos.autos; vars = c.in_ok-vars.vars; data_vars = c.in_ok-data_vars.data_vars }
-    ≡ G face F c.in_ok-autos.autos h =
-    ap₂ (λ (v : List Target) (d : List Datum). record { autos = c.in_ok-autos.autos; vars = v; data_vars = d })
-    vars datums in
-    subst (λ (f : Face). IsSound f (record {
-      autos = c.in_ok-autos.autos;
-      vars = c.in_ok-vars.vars;
-      data_vars =
-          c.in_ok-data_vars.data_vars;
-    })) (sym c.face.ensures)
+    let made : c.in_ok-made.made ≡ G face F c.in_ok-autos.autos h = rw c.forest-2.ensures at c.in_ok-made.ensures in
+    subst (λ (f : Face). IsSound f c.in_ok-made.made) (sym c.face.ensures)
     (subst (IsSound face) (sym made) (sound_made face F c.in_ok-autos.autos h c.in_ok-autos.ensures.ranked
     c.known.ensures.sound))
 
@@ -41,12 +29,7 @@ returns-clause-covers g c =
     let face = c.args.forest.now.face in
     let h : Paired IsReduction F.autos c.in_ok-autos.autos = rw (c.as_slice.ensures, c.forest.ensures) at
     c.in_ok-autos.ensures.reductions in
-    let vars : c.in_ok-vars.vars ≡ F.vars = rw c.forest-2.ensures at c.in_ok-vars.ensures in
-    let datums : c.in_ok-data_vars.data_vars ≡ F.data_vars = rw c.forest-3.ensures at c.in_ok-data_vars.ensures in
-    let made : record { autos = c.in_ok-autos.autos; vars = c.in_ok-vars.vars; data_vars = c.in_ok-data_vars.data_vars }
-    ≡ G face F c.in_ok-autos.autos h =
-    ap₂ (λ (v : List Target) (d : List Datum). record { autos = c.in_ok-autos.autos; vars = v; data_vars = d })
-    vars datums in
+    let made : c.in_ok-made.made ≡ G face F c.in_ok-autos.autos h = rw c.forest-2.ensures at c.in_ok-made.ensures in
     IfOk-weaker c.of.result (λ s. s.forest ≡ _) (λ s. Covers s.forest F)
     (λ s e. subst (λ (z : Forest). Covers z F) (sym (e ∙ made)) (covers_first face F c.in_ok-autos.autos h))
     c.of.ensures.forest
@@ -57,12 +40,7 @@ returns-clause-covered g c =
     let face = c.args.forest.now.face in
     let h : Paired IsReduction F.autos c.in_ok-autos.autos = rw (c.as_slice.ensures, c.forest.ensures) at
     c.in_ok-autos.ensures.reductions in
-    let vars : c.in_ok-vars.vars ≡ F.vars = rw c.forest-2.ensures at c.in_ok-vars.ensures in
-    let datums : c.in_ok-data_vars.data_vars ≡ F.data_vars = rw c.forest-3.ensures at c.in_ok-data_vars.ensures in
-    let made : record { autos = c.in_ok-autos.autos; vars = c.in_ok-vars.vars; data_vars = c.in_ok-data_vars.data_vars }
-    ≡ G face F c.in_ok-autos.autos h =
-    ap₂ (λ (v : List Target) (d : List Datum). record { autos = c.in_ok-autos.autos; vars = v; data_vars = d })
-    vars datums in
+    let made : c.in_ok-made.made ≡ G face F c.in_ok-autos.autos h = rw c.forest-2.ensures at c.in_ok-made.ensures in
     IfOk-weaker c.of.result (λ s. s.forest ≡ _) (λ s. Covers F s.forest)
     (λ s e. subst (λ (z : Forest). Covers F z) (sym (e ∙ made)) (first_covers face F c.in_ok-autos.autos h))
     c.of.ensures.forest
@@ -73,12 +51,7 @@ returns-clause-reduced g c =
     let face = c.args.forest.now.face in
     let h : Paired IsReduction F.autos c.in_ok-autos.autos = rw (c.as_slice.ensures, c.forest.ensures) at
     c.in_ok-autos.ensures.reductions in
-    let vars : c.in_ok-vars.vars ≡ F.vars = rw c.forest-2.ensures at c.in_ok-vars.ensures in
-    let datums : c.in_ok-data_vars.data_vars ≡ F.data_vars = rw c.forest-3.ensures at c.in_ok-data_vars.ensures in
-    let made : record { autos = c.in_ok-autos.autos; vars = c.in_ok-vars.vars; data_vars = c.in_ok-data_vars.data_vars }
-    ≡ G face F c.in_ok-autos.autos h =
-    ap₂ (λ (v : List Target) (d : List Datum). record { autos = c.in_ok-autos.autos; vars = v; data_vars = d })
-    vars datums in
+    let made : c.in_ok-made.made ≡ G face F c.in_ok-autos.autos h = rw c.forest-2.ensures at c.in_ok-made.ensures in
     IfOk-weaker c.of.result (λ s. s.forest ≡ _) (λ s. Reduced s.forest)
     (λ s e. subst Reduced (sym (e ∙ made)) (is_reduced face F c.in_ok-autos.autos h))
     c.of.ensures.forest
@@ -89,12 +62,7 @@ returns-clause-plain g c plain =
     let face = c.args.forest.now.face in
     let h : Paired IsReduction F.autos c.in_ok-autos.autos = rw (c.as_slice.ensures, c.forest.ensures) at
     c.in_ok-autos.ensures.reductions in
-    let vars : c.in_ok-vars.vars ≡ F.vars = rw c.forest-2.ensures at c.in_ok-vars.ensures in
-    let datums : c.in_ok-data_vars.data_vars ≡ F.data_vars = rw c.forest-3.ensures at c.in_ok-data_vars.ensures in
-    let made : record { autos = c.in_ok-autos.autos; vars = c.in_ok-vars.vars; data_vars = c.in_ok-data_vars.data_vars }
-    ≡ G face F c.in_ok-autos.autos h =
-    ap₂ (λ (v : List Target) (d : List Datum). record { autos = c.in_ok-autos.autos; vars = v; data_vars = d })
-    vars datums in
+    let made : c.in_ok-made.made ≡ G face F c.in_ok-autos.autos h = rw c.forest-2.ensures at c.in_ok-made.ensures in
     IfOk-weaker c.of.result (λ s. s.forest ≡ _) (λ s. Every HasNoBoxes s.forest.autos)
     (λ s e. subst (λ (z : Forest). Every HasNoBoxes z.autos) (sym (e ∙ made))
     (plain_made face F c.in_ok-autos.autos h c.in_ok-autos.ensures.ranked plain))
@@ -106,12 +74,7 @@ returns-clause-canonical g c =
     let face = c.args.forest.now.face in
     let h : Paired IsReduction F.autos c.in_ok-autos.autos = rw (c.as_slice.ensures, c.forest.ensures) at
     c.in_ok-autos.ensures.reductions in
-    let vars : c.in_ok-vars.vars ≡ F.vars = rw c.forest-2.ensures at c.in_ok-vars.ensures in
-    let datums : c.in_ok-data_vars.data_vars ≡ F.data_vars = rw c.forest-3.ensures at c.in_ok-data_vars.ensures in
-    let made : record { autos = c.in_ok-autos.autos; vars = c.in_ok-vars.vars; data_vars = c.in_ok-data_vars.data_vars }
-    ≡ G face F c.in_ok-autos.autos h =
-    ap₂ (λ (v : List Target) (d : List Datum). record { autos = c.in_ok-autos.autos; vars = v; data_vars = d })
-    vars datums in
+    let made : c.in_ok-made.made ≡ G face F c.in_ok-autos.autos h = rw c.forest-2.ensures at c.in_ok-made.ensures in
     both_ok c.of.result (λ s. s.forest ≡ _) (λ s. s.face ≡ _) (λ s. IsCanonical face F → IsCanonical s.face s.forest)
     (λ s e f can. subst (λ (x : Face). IsCanonical x s.forest) (sym (f ∙ c.face.ensures))
     (subst (IsCanonical face) (sym (e ∙ made)) (canonical_made face F c.in_ok-autos.autos h

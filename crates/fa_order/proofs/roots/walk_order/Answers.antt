@@ -2,8 +2,9 @@ use Rattle.std.proofs.Common.{◌≡◌, ◌∙◌, ap, length, sym}
 use Rattle.std.proofs.lemmas.Result.{IfOk-weaker}
 use Rattle.fore_base.proofs.ListLemmas.{paired_long}
 use Rattle.fa_core.specs.Canonical.{var_roots}
+use Rattle.fa_merge.specs.Signed.{IsSignatureOf}
 use Rattle.fa_order.specs.Placing.{IsWalkOrder}
-use Rattle.fa_order.specs.inner.Backs.{IsSigned, refs_of}
+use Rattle.fa_order.specs.inner.Backs.{refs_of}
 use Rattle.fa_order.proofs.WalkOrder.{vars_below, all_refs_below, all_led_within, is_walk, refs_long}
 use Rattle.fa_order.proofs.roots.walk_order.Goals as goal
 
@@ -15,7 +16,7 @@ walk-requires-clause-from c =
     let from : c.as_slice-3.result.now ≡ var_roots F.vars =
     rw (c.as_slice-2.ensures, c.forest.ensures) at (c.as_slice-3.ensures ∙ c.in_ok-from.ensures) in
     let long : length F.autos ≡ length c.in_ok-refers.refers =
-    paired_long (IsSigned bs) F.autos ss c.in_ok-signatures.ensures.signed
+    paired_long (IsSignatureOf bs) F.autos ss c.in_ok-signatures.ensures.signed
     ∙ sym (refs_long ss) ∙ ap length (sym (rw c.as_slice.ensures at c.in_ok-refers.ensures)) in
     rw (from, ← long) (vars_below c.args.forest.now.face F c.known.ensures.sound)
 
@@ -26,7 +27,7 @@ walk-requires-clause-refers c =
     let ss = c.in_ok-signatures.signatures in
     let refs : c.in_ok-refers.refers ≡ refs_of ss = rw c.as_slice.ensures at c.in_ok-refers.ensures in
     let long : length F.autos ≡ length (refs_of ss) =
-    paired_long (IsSigned bs) F.autos ss c.in_ok-signatures.ensures.signed ∙ sym (refs_long ss) in
+    paired_long (IsSignatureOf bs) F.autos ss c.in_ok-signatures.ensures.signed ∙ sym (refs_long ss) in
     rw (refs, ← long)
     (all_refs_below c.args.forest.now.face F c.known.ensures.sound ss c.in_ok-signatures.ensures.signed)
 

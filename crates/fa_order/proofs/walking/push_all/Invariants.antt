@@ -1,7 +1,6 @@
-use Rattle.std.proofs.Common.{◌≡◌, ◌≤◌, ◌++◌, take, length}
-use Rattle.fa_order.specs.inner.Stacks.{behind}
+use Rattle.std.proofs.Common.{◌≡◌, ◌≤◌, ◌++◌, take, length, reverse}
 use Rattle.fa_order.proofs.walking.push_all.Given as goal
 
 abbrev pub invariant-loop-place : goal.invariant-loop-place
 invariant-loop-place l = (l.place ≤ length l.roots)
-    × (take l.place l.roots ++ behind l.stack ≡ l.roots ++ behind l.initial.stack)
+    × (take l.place l.roots ++ reverse l.stack ≡ l.roots ++ reverse l.initial.stack)

@@ -21,8 +21,8 @@ returns-then-is_empty c =
     (h (component_at F.autos r) (component_got F.autos r c.requires.root)))
     c.component_refs.ensures
 
-pub left_refs-requires-clause-top : goal.left_refs-requires-clause-top
-left_refs-requires-clause-top c =
+pub picked_refs-requires-clause-top : goal.picked_refs-requires-clause-top
+picked_refs-requires-clause-top c =
     some_taken_top c.args.forest.now.forest.autos c.args.ports.now c.requires.ports c.args.root c.in_ok-fields.fields
     c.in_ok-fields.ensures (λ e. absurd (true≢false (sym (c.is_empty.ensures.1 e)
     ∙ c.if-is_empty.false)))
@@ -33,8 +33,8 @@ returns c =
     let r = c.args.root in
     let ps = ports_of c.args.ports.now in
     let fs = c.in_ok-fields.fields in
-    IfOk-weaker c.left_refs.result (AreLeftRefs (slice_get F.autos r) fs)
+    IfOk-weaker c.picked_refs.result (AreLeftRefs (slice_get F.autos r) fs)
     (λ refs. AreOuter c.args.forest.now.face F c.known.ensures.sound ps r c.requires.root refs)
     (λ made h. outer_left c.args.forest.now.face F c.known.ensures.sound ps r c.requires.root made fs
     c.in_ok-fields.ensures h)
-    (rw c.as_slice.ensures at c.left_refs.ensures)
+    (rw c.as_slice.ensures at c.picked_refs.ensures)

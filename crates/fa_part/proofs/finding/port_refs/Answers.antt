@@ -11,14 +11,14 @@ use Rattle.fa_part.proofs.finding.port_refs.Goals as goal
 pub loop-port-init : goal.loop-port-init
 loop-port-init c = λ ts h. rw c.new-made.ensures thin_none
 
-pub taken_refs-requires-clause-top : goal.taken_refs-requires-clause-top
-taken_refs-requires-clause-top c =
+pub picked_refs-requires-clause-top : goal.picked_refs-requires-clause-top
+picked_refs-requires-clause-top c =
     port_top c.args.forest.now.forest.autos c.port-item.result
     (every_at (IsPortOf c.args.forest.now.forest.autos) c.args.ports.now c.loop-port.port-index c.port-item.result
     c.requires c.loop-port-test.true c.port-item.is)
 
-pub taken_refs-requires-clause-root : goal.taken_refs-requires-clause-root
-taken_refs-requires-clause-root c =
+pub picked_refs-requires-clause-root : goal.picked_refs-requires-clause-root
+picked_refs-requires-clause-root c =
     port_there c.args.forest.now.forest.autos c.port-item.result
     (every_at (IsPortOf c.args.forest.now.forest.autos) c.args.ports.now c.loop-port.port-index c.port-item.result
     c.requires c.loop-port-test.true c.port-item.is)
@@ -33,7 +33,7 @@ loop-port-preserved c =
       take_item c.args.ports.now c.loop-port.port-index p c.loop-port-test.true c.port-item.is,
       c.in_ok-append.ensures.ok,
     )
-    (subst (λ (qs : Ports). ArePortRefs autos qs (c.loop-port.made ++ c.in_ok-taken_refs.field-0))
+    (subst (λ (qs : Ports). ArePortRefs autos qs (c.loop-port.made ++ c.in_ok-picked_refs.field-0))
     (sym (ports_more _ p))
     (refs_more autos _ p.root p.fields _ _ (port_there autos p own) c.loop-port.invariant
-    (rw c.as_slice.ensures at c.in_ok-taken_refs.ensures)))
+    (rw c.as_slice.ensures at c.in_ok-picked_refs.ensures)))

@@ -1,71 +1,17 @@
-use Rattle.std.proofs.Common.{◌≡◌, ◌∙◌, ◌<◌, ℕ, List, Option, Some, ap, sym, subst, slice_get}
+use Rattle.std.proofs.Common.{◌≡◌, List, ℕ, Some, slice_get, sym, subst}
 use Rattle.std.proofs.lemmas.Result.{IfOk-weaker}
-use Rattle.fore_base.specs.Lists.{IsIn, Every}
-use Rattle.fore_base.proofs.ListLemmas.{every_in, in_every, same_item}
 use Rattle.ta_core.specs.Auto.{Automaton}
-use Rattle.ta_core.specs.Language.{InLanguage}
 use Rattle.fa_core.specs.Cells.{roots_in}
-use Rattle.fa_sound.specs.Soundness.{IsStateOf}
-use Rattle.fa_merge.specs.inner.Signed.{IsSilentOf}
-use Rattle.fa_merge.proofs.Signatures.{is_state, signatures_at}
-use Rattle.fa_order.proofs.SameMarks.{signature_roots, same_roots}
-use Rattle.fa_part.specs.inner.Referring.{AreRootRefs, AreStateRefs}
+use Rattle.fa_part.specs.inner.Referring.{AreRootRefs}
+use Rattle.fa_part.proofs.SignedRefs.{refs_by}
 use Rattle.fa_part.proofs.referring.component_refs.Goals as goal
 
-pub referring_state-requires : goal.referring_state-requires
-referring_state-requires c =
-    let autos = c.args.forest.now.forest.autos in
-    let own = c.at-auto.result.now in
-    let here : slice_get autos c.args.root ≡ Some own = rw c.forest.ensures at c.at-auto.ensures in
-    let roots : c.as_slice.result.now ≡ own.roots = c.as_slice.ensures ∙ ap (λ (a : Automaton). a.roots)
-    c.auto.view_is in
-    let o : Option Automaton = slice_get autos c.args.root in
-    subst (λ (qs : List ℕ). Every (IsStateOf o) qs) (sym roots)
-    (in_every (IsStateOf o) own.roots (λ q i.
-    is_state o own q here (every_in (λ q. q < own.states) own.roots q c.known-2.ensures.0 i)))
-
-pub state_refs-requires : goal.state_refs-requires
-state_refs-requires c =
-    let autos = c.args.forest.now.forest.autos in
-    let own = c.at-auto.result.now in
-    let q = c.in-Some.state in
-    let here : slice_get autos c.args.root ≡ Some own = rw c.forest.ensures at c.at-auto.ensures in
-    let roots : c.as_slice.result.now ≡ own.roots = c.as_slice.ensures ∙ ap (λ (a : Automaton). a.roots)
-    c.auto.view_is in
-    let found : IsIn q own.roots = subst (λ (qs : List ℕ). IsIn q qs) roots c.in-Some.ensures.0 in
-    is_state _ own q here (every_in (λ q. q < own.states) own.roots q c.known-2.ensures.0 found)
-
-pub returns-in-Some : goal.returns-in-Some
-returns-in-Some c =
-    let autos = c.args.forest.now.forest.autos in
-    let bs = c.args.forest.now.face.boxes in
-    let own = c.at-auto.result.now in
-    let q = c.in-Some.state in
-    let here : slice_get autos c.args.root ≡ Some own = rw c.forest.ensures at c.at-auto.ensures in
-    let roots : c.as_slice.result.now ≡ own.roots = c.as_slice.ensures ∙ ap (λ (a : Automaton). a.roots)
-    c.auto.view_is in
-    let found : IsIn q own.roots = subst (λ (qs : List ℕ). IsIn q qs) roots c.in-Some.ensures.0 in
-    let live = c.in-Some.ensures.1 own here in
-    IfOk-weaker c.state_refs.result (AreStateRefs (slice_get autos c.args.root) q)
-    (λ (made : List ℕ). (a : Automaton) → slice_get autos c.args.root ≡ Some a → AreRootRefs a made)
-    (λ made h a e t i.
-    let same : own ≡ a = same_item autos c.args.root own a here e in
-    let u = live.0 in
-    let runs = subst (λ (z : Automaton). InLanguage z u) same (q, found, live.1) in
-    h own u here live.1
-    ∙ same_roots bs u t
-    ((signatures_at bs autos c.args.root a c.known.ensures.sound.well_formed.signatures e).component u t runs i))
-    c.state_refs.ensures
-
-pub returns-in-None : goal.returns-in-None
-returns-in-None c = λ a e t i.
-    let autos = c.args.forest.now.forest.autos in
-    let bs = c.args.forest.now.face.boxes in
-    let own = c.at-auto.result.now in
-    let qs = c.as_slice.result.now in
-    let here : slice_get autos c.args.root ≡ Some own = rw c.forest.ensures at c.at-auto.ensures in
-    let same : own ≡ a = same_item autos c.args.root own a here e in
-    let roots : qs ≡ a.roots = c.as_slice.ensures ∙ ap (λ (x : Automaton). x.roots) (c.auto.view_is ∙ same) in
-    let found : IsIn i.0 qs = subst (λ (rs : List ℕ). IsIn i.0 rs) (sym roots) i.1 in
-    let silent = every_in (IsSilentOf bs (slice_get autos c.args.root)) qs i.0 c.in-None.ensures found a t e i.2 in
-    c.new.ensures ∙ sym (ap roots_in silent) ∙ signature_roots bs t
+pub returns : goal.returns
+returns c =
+    let o = slice_get c.args.forest.now.forest.autos c.args.root in
+    let s = c.in_ok-signature.signature in
+    IfOk-weaker c.marked_roots.result (λ (made : List ℕ). made ≡ roots_in s.refs)
+    (λ (made : List ℕ). (a : Automaton) → o ≡ Some a → AreRootRefs a made)
+    (λ made same a e.
+    subst (AreRootRefs a) (sym same) (refs_by c.args.forest.now.face.boxes a s (c.in_ok-signature.ensures a e)))
+    (rw c.as_slice.ensures at c.marked_roots.ensures)

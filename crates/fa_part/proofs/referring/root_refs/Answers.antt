@@ -1,13 +1,18 @@
-use Rattle.std.proofs.Common.{arith}
-use Rattle.fore_base.proofs.ListLemmas.{paired_push}
-use Rattle.fa_merge.proofs.Signatures.{one_more}
+use Rattle.std.proofs.Common.{◌≡◌, List, ℕ, map, sym, subst}
+use Rattle.std.proofs.lemmas.Result.{IfOk-weaker}
+use Rattle.fore_base.specs.Lists.{Paired}
+use Rattle.fa_core.specs.Cells.{roots_in}
+use Rattle.fa_core.specs.declared.signature.Signature.{Signature}
 use Rattle.fa_part.specs.inner.Referring.{AreRootRefs}
+use Rattle.fa_part.proofs.SignedRefs.{all_refs_by}
 use Rattle.fa_part.proofs.referring.root_refs.Goals as goal
 
-pub loop-root-preserved : goal.loop-root-preserved
-loop-root-preserved c =
-    let low = c.loop-root-test.true in
-    let size = rw c.forest.ensures at c.in_ok-count.ensures.value in
-    let k = one_more c.args.forest.now.forest.autos c.loop-root.root (omega (arith, low, size)) in
-    rw (k.2, c.in_ok-push.ensures.ok)
-    (paired_push AreRootRefs _ _ k.0 _ c.loop-root.invariant (c.in_ok-refs.ensures k.0 k.1))
+pub returns : goal.returns
+returns c =
+    let autos = c.args.forest.now.forest.autos in
+    let ss = c.in_ok-signatures.signatures in
+    IfOk-weaker c.references.result
+    (λ (all : List (List ℕ)). all ≡ map (λ (s : Signature). roots_in s.refs) ss) (Paired AreRootRefs autos)
+    (λ all same. subst (Paired AreRootRefs autos) (sym same)
+    (all_refs_by c.args.forest.now.face.boxes autos ss c.in_ok-signatures.ensures.signed))
+    (rw c.as_slice.ensures at c.references.ensures)

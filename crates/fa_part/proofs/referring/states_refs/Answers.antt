@@ -1,12 +1,13 @@
-use Rattle.std.proofs.Common.{◌≡◌, List, ℕ, flat_map, slice_get}
-use Rattle.std.proofs.lemmas.Result.{IfOk-weaker}
-use Rattle.fa_part.specs.inner.Referring.{AreEdgeRefs}
+use Rattle.std.proofs.Common.{[], refl, slice_get}
+use Rattle.std.proofs.lemmas.List.{take_more}
+use Rattle.fa_part.proofs.EdgeRefs.{edges_more}
 use Rattle.fa_part.proofs.referring.states_refs.Goals as goal
 
-pub returns : goal.returns
-returns c =
-    let o = slice_get c.args.forest.now.forest.autos c.args.root in
-    IfOk-weaker c.joined.result (λ (made : List ℕ). made ≡ flat_map (λ rs. rs) c.in_ok-lists.lists)
-    (AreEdgeRefs o c.args.states.now)
-    (λ made e. (c.in_ok-lists.lists, c.in_ok-lists.ensures, e))
-    (rw c.as_slice.ensures at c.joined.ensures)
+pub loop-state-init : goal.loop-state-init
+loop-state-init c = rw c.new-made.ensures ([], tt, refl)
+
+pub loop-state-preserved : goal.loop-state-preserved
+loop-state-preserved c =
+    rw (take_more c.args.states.now c.loop-state.state-index 0 c.loop-state-test.true, c.in_ok-append.ensures.ok)
+    (edges_more (slice_get c.args.forest.now.forest.autos c.args.root) _ _ _ _ c.loop-state.invariant
+    c.in_ok-state_refs.ensures)

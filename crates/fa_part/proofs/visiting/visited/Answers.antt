@@ -1,25 +1,25 @@
-use Rattle.std.proofs.Common.{◌<◌, ◌∙◌, ℕ, List, ap, length, subst, sym}
+use Rattle.std.proofs.Common.{◌<◌, ◌∙◌, ℕ, List, ap, length, subst, sym, reverse}
 use Rattle.fa_core.specs.Folding.{Placing, all_placed}
 use Rattle.fa_core.specs.References.{AllBelow}
-use Rattle.fa_order.specs.inner.Stacks.{behind, nth_refs, weight}
-use Rattle.fa_order.proofs.Weights.{behind_last}
+use Rattle.fa_order.specs.inner.Stacks.{nth_refs, weight}
+use Rattle.fa_order.proofs.Weights.{reverse_last}
 use Rattle.fa_part.proofs.visiting.visited.Goals as goal
 
 pub visit-requires : goal.visit-requires
 visit-requires c =
-    let e = ap behind c.in-Some.ensures ∙ behind_last c.pop.new.self c.in-Some.root in
+    let e = ap reverse c.in-Some.ensures ∙ reverse_last c.pop.new.self c.in-Some.root in
     (subst (λ (z : List ℕ). AllBelow (length c.args.refers.now) z) e c.loop-root.invariant.1).0
 
 pub loop-root-smaller : goal.loop-root-smaller
 loop-root-smaller c =
-    let e = ap behind c.in-Some.ensures ∙ behind_last c.pop.new.self c.in-Some.root in
-    subst (λ (z : List ℕ). weight c.args.refers.now (behind c.visit.new.stack) c.visit.new.placed
+    let e = ap reverse c.in-Some.ensures ∙ reverse_last c.pop.new.self c.in-Some.root in
+    subst (λ (z : List ℕ). weight c.args.refers.now (reverse c.visit.new.stack) c.visit.new.placed
     < weight c.args.refers.now z c.loop-root.placed) (sym e) c.in_ok-visit.ensures.falls
 
 pub loop-root-preserved : goal.loop-root-preserved
 loop-root-preserved c =
     let refers = c.args.refers.now in
-    let e = ap behind c.in-Some.ensures ∙ behind_last c.pop.new.self c.in-Some.root in (
+    let e = ap reverse c.in-Some.ensures ∙ reverse_last c.pop.new.self c.in-Some.root in (
       (λ order w. c.loop-root.invariant.0 order
           (subst (λ (z : List ℕ). Placing (nth_refs refers) z c.loop-root.placed order) (sym e)
           (c.in_ok-visit.ensures.goes order w))),
@@ -31,5 +31,5 @@ pub returns : goal.returns
 returns c =
     let k = rw c.in_default.is at c.pop.ensures in
     c.loop-root.invariant.0 c.loop-root.placed
-    (subst (λ (z : List ℕ). Placing (nth_refs c.args.refers.now) (behind z) c.loop-root.placed c.loop-root.placed)
+    (subst (λ (z : List ℕ). Placing (nth_refs c.args.refers.now) (reverse z) c.loop-root.placed c.loop-root.placed)
     (sym k.0) all_placed)
