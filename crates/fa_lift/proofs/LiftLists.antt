@@ -18,6 +18,7 @@ use Rattle.fa_core.specs.declared.forest.Forest.{Forest}
 use Rattle.fa_core.specs.declared.forest.Target.TheVariants.{At}
 use Rattle.fa_core.specs.Cells.{edges}
 use Rattle.fa_core.specs.Dressed.{leaf}
+use Rattle.fa_core.specs.Folding.{symbol_slots}
 use Rattle.fa_core.specs.Member.{bare_end}
 use Rattle.fa_core.proofs.Dressing.{leaf_top}
 use Rattle.fa_core.proofs.NodeRuns.{bare_of_end}
@@ -30,7 +31,7 @@ use Rattle.fa_split.proofs.RunPlaces.{at_index}
 use Rattle.fa_split.proofs.SplitCells.{RefersWell}
 use Rattle.fa_lift.specs.Lift.{IsLiftOf}
 use Rattle.fa_lift.proofs.LiftedForests.{top_regroups, in_regroups}
-use Rattle.fa_lift.specs.Lift.{Owns, child_gives, slots_at, lift_top, lift_in}
+use Rattle.fa_lift.specs.Lift.{Owns, child_gives, lift_top, lift_in}
 use Rattle.fa_lift.specs.Lift.{MayRefer, slot_gives}
 use Rattle.fa_lift.specs.inner.Lifting.{Among, HasLifts}
 
@@ -117,10 +118,10 @@ runs_refer rules r q h = let m = bare_of_end rules q (leaf (At r)) h in (m.0, m.
 
 module _ (bs : List BoxFace) (r f : ℕ) (a : Automaton) (ranked : IsRanked a) (x : Rule) (rule : IsIn x a.rules) where
   -- the rule owns the edge at a place where the slot gives the field and the child may be the reference
-  pub owns_at : (p : ℕ) (e : Slot × ℕ) → slice_get (edges (slots_at x.symbol) x.children) p ≡ Some e
+  pub owns_at : (p : ℕ) (e : Slot × ℕ) → slice_get (edges (symbol_slots x.symbol) x.children) p ≡ Some e
       → slot_gives bs f e.0 ≡ true → MayRefer a.rules r e.1 → Owns bs r f a x p
   owns_at p e h g m =
-      let k = edge_place bs f (slots_at x.symbol) x.children p e h in
+      let k = edge_place bs f (symbol_slots x.symbol) x.children p e h in
       let l = within x.children p e.1 k.1 in
       record {
         rule = rule;
@@ -137,18 +138,18 @@ module _ (bs : List BoxFace) (r f : ℕ) (a : Automaton) (ranked : IsRanked a) (
       within (y ∷ qs) (suc p) q e = let l = within qs p q e in omega (arith, l)
 
   -- and only there
-  pub owned_at : (p : ℕ) (e : Slot × ℕ) → slice_get (edges (slots_at x.symbol) x.children) p ≡ Some e
+  pub owned_at : (p : ℕ) (e : Slot × ℕ) → slice_get (edges (symbol_slots x.symbol) x.children) p ≡ Some e
       → Owns bs r f a x p → (slot_gives bs f e.0 ≡ true) × MayRefer a.rules r e.1
   owned_at p e h own =
-      let k = edge_place bs f (slots_at x.symbol) x.children p e h in
+      let k = edge_place bs f (symbol_slots x.symbol) x.children p e h in
       let q : slice_index_or x.children p 0 ≡ e.1 =
       same_Some (slice_index_or x.children p 0) e.1 (sym (at_index x.children p own.place) ∙ k.1) in (
         sym k.0 ∙ own.gives,
         subst (λ (n : ℕ). MayRefer a.rules r n) q (runs_refer a.rules r (slice_index_or x.children p 0) own.ends),
       )
 
-  pub owned_within : (p : ℕ) → Owns bs r f a x p → p < length (edges (slots_at x.symbol) x.children)
-  owned_within p own = place_edge bs f (slots_at x.symbol) x.children p own.gives own.place
+  pub owned_within : (p : ℕ) → Owns bs r f a x p → p < length (edges (symbol_slots x.symbol) x.children)
+  owned_within p own = place_edge bs f (symbol_slots x.symbol) x.children p own.gives own.place
 
 -- What each lifted forest has.
 

@@ -15,6 +15,7 @@ use Rattle.fa_core.specs.declared.forest.Target.TheVariants.{At}
 use Rattle.fa_core.specs.Cells.{is_leaf}
 use Rattle.fa_core.specs.Dressed.{Node, Parts, End, node, no_parts, field, link, hook, leaf}
 use Rattle.fa_core.specs.Filled.{HasSignatures}
+use Rattle.fa_core.specs.Folding.{symbol_slots}
 use Rattle.fa_core.specs.Member.{bare, bare_end}
 use Rattle.fa_core.proofs.Dressing.{cell_top}
 use Rattle.fa_core.proofs.NodeRuns.{PartsRun, EndRun, parts_bare, end_bare}
@@ -37,11 +38,11 @@ use Rattle.fa_split.proofs.FreshStates.{widen}
 use Rattle.fa_split.proofs.Places.{cell_children, child_of_top}
 use Rattle.fa_split.proofs.RunPlaces.{at_index, set_same}
 use Rattle.fa_split.proofs.TopRules.{tree_by_top}
-use Rattle.fa_lift.specs.Lift.{child_gives, slots_at, Owns, owner}
+use Rattle.fa_lift.specs.Lift.{child_gives, Owns, owner}
 use Rattle.fa_lift.proofs.LiftHats.{ByOwner}
 
 -- a symbol with slots is a cell's
-cell_gives : (bs : List BoxFace) (f p : ℕ) (y : Symbol) → child_gives bs f (slots_at y) p ≡ true → is_leaf y ≡ false
+cell_gives : (bs : List BoxFace) (f p : ℕ) (y : Symbol) → child_gives bs f (symbol_slots y) p ≡ true → is_leaf y ≡ false
 cell_gives bs f p Null e = absurd (true≢false (sym e))
 cell_gives bs f p Uninit e = absurd (true≢false (sym e))
 cell_gives bs f p Dangling e = absurd (true≢false (sym e))
@@ -126,10 +127,11 @@ module _ (bs : List BoxFace) (r f : ℕ) (a : Automaton) (ranked : IsRanked a) (
       (chosen_symbols a x ranked own.rule P h)
 
   -- its rule at the top
-  pub owner_gives : child_gives bs f (slots_at (top_rule (owner a x p r)).symbol) p ≡ true
+  pub owner_gives : child_gives bs f (symbol_slots (top_rule (owner a x p r)).symbol) p ≡ true
   owner_gives =
-      ap (λ (o : Rule). child_gives bs f (slots_at o.symbol) p) (fixed_top one p (At r) one_ranked one_top one_place)
-      ∙ ap (λ (o : Rule). child_gives bs f (slots_at o.symbol) p) top_is
+      ap (λ (o : Rule). child_gives bs f (symbol_slots o.symbol) p)
+      (fixed_top one p (At r) one_ranked one_top one_place)
+      ∙ ap (λ (o : Rule). child_gives bs f (symbol_slots o.symbol) p) top_is
       ∙ own.gives
 
   -- they are cells
@@ -160,7 +162,7 @@ module _ (bs : List BoxFace) (r f : ℕ) (a : Automaton) (ranked : IsRanked a) (
       same_Some c.0 (slice_index_or x.children p 0) (sym c.1 ∙ at_index x.children p l) in record {
         rule = rule;
         place = l;
-        gives = ap (λ (y : Symbol). child_gives bs f (slots_at y) p) by.symbol ∙ by.gives;
+        gives = ap (λ (y : Symbol). child_gives bs f (symbol_slots y) p) by.symbol ∙ by.gives;
         ends = subst (λ (q : ℕ). RunOf a.rules q (bare_end (leaf (At r)))) q (end_bare a.rules c.0 (leaf (At r)) c.2);
       }
 

@@ -8,12 +8,13 @@ use Rattle.ta_core.specs.Single.{HasOneTop}
 use Rattle.ta_core.specs.declared.auto.Rule.{Rule}
 use Rattle.fa_core.specs.declared.faces.BoxFace.{BoxFace}
 use Rattle.fa_core.specs.declared.forest.Forest.{Forest}
+use Rattle.fa_core.specs.Folding.{symbol_slots}
 use Rattle.fa_merge.proofs.PlacedForests.{component_has}
 use Rattle.fa_sound.specs.Components.{component_at}
 use Rattle.fa_signatures.specs.CutPieces.{IsPiece}
 use Rattle.fa_split.specs.Split.{top_rule}
 use Rattle.fa_split.proofs.OtherComponent.{component_set, component_last, set_less}
-use Rattle.fa_lift.specs.Lift.{Owns, owner, hatted, lift_top, lift_in, child_gives, slots_at, IsLiftedAt, IsLiftOf}
+use Rattle.fa_lift.specs.Lift.{Owns, owner, hatted, lift_top, lift_in, child_gives, IsLiftedAt, IsLiftOf}
 use Rattle.fa_lift.proofs.LiftOwners.{owner_one, owner_gives, owner_leaf}
 
 module _ (bs : List BoxFace) (F : Forest) (r f t : ℕ) (ranked : Every IsRanked F.autos) (there : t < length F.autos)
@@ -31,7 +32,7 @@ module _ (bs : List BoxFace) (F : Forest) (r f t : ℕ) (ranked : Every IsRanked
   lifted_at G u l e = record {
     root = l;
     top = subst HasOneTop (sym e) (owner_one bs r f a a_ranked x p own);
-    gives = ap (λ (b : Automaton). child_gives bs f (slots_at (top_rule b).symbol) p) e
+    gives = ap (λ (b : Automaton). child_gives bs f (symbol_slots (top_rule b).symbol) p) e
         ∙ owner_gives bs r f a a_ranked x p own;
     ends = λ u k. owner_leaf bs r f a a_ranked x p own u (subst (λ (b : Automaton). InLanguage b u) e k);
   }

@@ -8,13 +8,13 @@ use Rattle.ta_core.specs.Single.{HasOneTop}
 use Rattle.ta_core.specs.declared.auto.Rule.{Rule}
 use Rattle.ta_core.specs.declared.symbol.Slot.{Slot}
 use Rattle.ta_core.specs.declared.symbol.Slot.TheVariants.{Field, Link, Hook}
-use Rattle.ta_core.specs.declared.symbol.Symbol.{Symbol}
-use Rattle.ta_core.specs.declared.symbol.Symbol.TheVariants.{Null, Uninit, Dangling, Ref, Cell}
+use Rattle.ta_core.specs.declared.symbol.Symbol.TheVariants.{Ref}
 use Rattle.ta_core.specs.declared.tree.Tree.{Tree, out-Tree}
 use Rattle.fa_core.specs.declared.faces.BoxFace.{BoxFace}
 use Rattle.fa_core.specs.declared.forest.Forest.{Forest}
 use Rattle.fa_core.specs.declared.forest.Target.TheVariants.{At}
 use Rattle.fa_core.specs.Dressed.{leaf}
+use Rattle.fa_core.specs.Folding.{symbol_slots}
 use Rattle.fa_core.specs.Member.{bare_end}
 use Rattle.fa_core.specs.Ways.{ways, to_root, given, gives_out_of, has}
 use Rattle.fa_sound.specs.Components.{component_at, with_component}
@@ -56,19 +56,11 @@ slot_gives bs f (Hook b) = false
 abbrev pub MayRefer : List Rule → ℕ → ℕ → Type 0
 MayRefer rules r q = (y : Rule) × IsIn y rules × (y.state ≡ q) × (y.symbol ≡ Ref r)
 
--- the slots of the symbol
-abbrev pub slots_at : Symbol → List Slot
-slots_at Null = []
-slots_at Uninit = []
-slots_at Dangling = []
-slots_at (Ref k) = []
-slots_at (Cell s ds ss) = ss
-
 -- rule x of a owns the edge at its child p: the slot there gives field f, and the child may be the leaf Ref(r)
 pub record Owns (bs : List BoxFace) (r f : ℕ) (a : Automaton) (x : Rule) (p : ℕ) : Type 0 where
   pub rule : IsIn x a.rules
   pub place : p < length x.children
-  pub gives : child_gives bs f (slots_at x.symbol) p ≡ true
+  pub gives : child_gives bs f (symbol_slots x.symbol) p ≡ true
   pub ends : RunOf a.rules (slice_index_or x.children p 0) (bare_end (leaf (At r)))
 
 -- The automata.
@@ -134,7 +126,7 @@ IsLiftBy bs F r t x p G u =
 pub record IsLiftedAt (bs : List BoxFace) (r f : ℕ) (G : Forest) (u p : ℕ) : Type 0 where
   pub root : u < length G.autos
   pub top : HasOneTop (component_at G.autos u)
-  pub gives : child_gives bs f (slots_at (top_rule (component_at G.autos u)).symbol) p ≡ true
+  pub gives : child_gives bs f (symbol_slots (top_rule (component_at G.autos u)).symbol) p ≡ true
   pub ends : (t : Tree) → InLanguage (component_at G.autos u) t → slice_get (out-Tree t).children p
       ≡ Some (bare_end (leaf (At r)))
 

@@ -9,12 +9,13 @@ ghost use Rattle.ta_core.specs.declared.tree.Tree.{Tree};
 ghost use Rattle.fa_core.specs.Cells.{edges};
 ghost use Rattle.fa_core.specs.declared.boxes.BoxDef.{BoxDef};
 ghost use Rattle.fa_core.specs.Filled.{HasSome, IsSound};
+ghost use Rattle.fa_core.specs.Folding.{symbol_slots};
 ghost use Rattle.fa_core.specs.Member.{Regroups, RegroupsInto};
 ghost use Rattle.fa_sound.specs.Components.{component_at};
 ghost use Rattle.fa_sound.specs.Unions.{forests, IsUnionOf};
 ghost use Rattle.fa_signatures.specs.CutPieces.{IsPiece};
 ghost use Rattle.fa_split.specs.Divided.{HasVarsOf};
-ghost use Rattle.fa_lift.specs.Lift.{IsLiftOf, IsProvider, Owns, hatted, lift_in, lift_top, owner, slots_at, with_two};
+ghost use Rattle.fa_lift.specs.Lift.{IsLiftOf, IsProvider, Owns, hatted, lift_in, lift_top, owner, with_two};
 ghost use Rattle.fa_lift.specs.inner.Lifting.{Among, HasLifts, IsLift};
 
 use crate::lifting_automata::{hatted, owner};
@@ -23,13 +24,13 @@ use fa_core::cells::{edges, has};
 use fa_core::forest::Forest;
 use fa_signatures::cut_auto;
 use fa_sound::{Sound, component, count_roots, replace};
-use fa_split::{roots_of, rules_of};
+use fa_split::{roots_of, rules_of, slots_of};
 use fore_base::list::{Copies, List};
 use fore_base::memory::Mem;
 use std::alloc::Global;
 use ta_core::auto::{Auto, Rule};
 use ta_core::inhabited::is_empty;
-use ta_core::symbol::{Slot, Symbol};
+use ta_core::symbol::Slot;
 
 /// Whether a box edge gives the field to the root. Err is want of memory.
 pub fn can_lift(forest: &Sound, root: u32, field: u32) -> Mem<bool>
@@ -123,19 +124,9 @@ fn lift_rule(
 
 /// The slots of the rule that have a child, each with the state of the child.
 fn edges_of(alloc: Global, rule: &Rule) -> Mem<List<(Slot, u32)>>
-    ensures { IfOk result (λ made. made ≡ edges (slots_at rule.now.symbol) rule.now.children) }
+    ensures { IfOk result (λ made. made ≡ edges (symbol_slots rule.now.symbol) rule.now.children) }
 {
-    edges(alloc, slots_at(&rule.symbol), rule.children.as_slice())
-}
-
-/// The slots of the symbol.
-fn slots_at(symbol: &Symbol) -> &[Slot]
-    ensures { result.now ≡ slots_at symbol.now }
-{
-    match symbol {
-        Symbol::Cell { slots, .. } => slots.as_slice(),
-        _ => &[],
-    }
+    edges(alloc, slots_of(&rule.symbol), rule.children.as_slice())
 }
 
 /// So where the rule owns the edge at the place.

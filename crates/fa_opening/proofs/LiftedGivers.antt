@@ -10,8 +10,6 @@ use Rattle.ta_core.specs.Single.{HasOneTop}
 use Rattle.ta_core.specs.declared.auto.Rule.{Rule}
 use Rattle.ta_core.specs.declared.symbol.Slot.{Slot}
 use Rattle.ta_core.specs.declared.symbol.Slot.TheVariants.{Field, Link, Hook}
-use Rattle.ta_core.specs.declared.symbol.Symbol.{Symbol}
-use Rattle.ta_core.specs.declared.symbol.Symbol.TheVariants.{Null, Uninit, Dangling, Ref, Cell}
 use Rattle.fa_core.specs.declared.faces.BoxFace.{BoxFace}
 use Rattle.fa_core.specs.declared.forest.Forest.{Forest}
 use Rattle.fa_core.specs.declared.forest.Target.TheVariants.{At}
@@ -23,18 +21,10 @@ use Rattle.fa_split.proofs.ChosenTrees.{chosen_one, chosen_ranked, chosen_top}
 use Rattle.fa_split.proofs.FixedTrees.{both, fixed_top, two_cases}
 use Rattle.fa_split.proofs.OtherComponent.{component_last, component_set}
 use Rattle.fa_split.proofs.RunPlaces.{at_index}
-use Rattle.fa_lift.specs.Lift.{IsLiftBy, IsLiftOf, IsLiftedAt, Owns, child_gives, owner, slots_at}
-use Rattle.fa_lift.specs.Lift.{slot_gives}
+use Rattle.fa_lift.specs.Lift.{IsLiftBy, IsLiftOf, IsLiftedAt, Owns, child_gives, owner, slot_gives}
 use Rattle.fa_unfold.specs.Slots.{Place, rule_places, state_places}
 use Rattle.fa_unfold.proofs.OpenedRoots.{component_has}
 use Rattle.fa_opening.specs.inner.Rounds.{HasGiver, IsOnlyRef}
-
-same_slots : (y : Symbol) → slots_at y ≡ symbol_slots y
-same_slots Null = refl
-same_slots Uninit = refl
-same_slots Dangling = refl
-same_slots (Ref k) = refl
-same_slots (Cell s ds ss) = refl
 
 -- the slot of the child at place p, with the child's state
 record IsFound (bs : List BoxFace) (f q : ℕ) (places : List Place) : Type 0 where
@@ -116,10 +106,10 @@ module _ (bs : List BoxFace) (r f : ℕ) (a : Automaton) (ranked : IsRanked a) (
     ];
   }
 
-  owner_found : child_gives bs f (slots_at (top_rule O).symbol) p ≡ true
+  owner_found : child_gives bs f (symbol_slots (top_rule O).symbol) p ≡ true
       → IsFound bs f (one.states + 1) (rule_places (top_rule O))
-  owner_found e = found bs f (one.states + 1) (symbol_slots (top_rule O).symbol) (top_rule O).children p
-      (subst (λ (ss : List Slot). child_gives bs f ss p ≡ true) (same_slots (top_rule O).symbol) e) child_is
+  owner_found e =
+      found bs f (one.states + 1) (symbol_slots (top_rule O).symbol) (top_rule O).children p e child_is
 
 module _ (bs : List BoxFace) (r f : ℕ) (F : Forest) (t : ℕ) (ranked : Every IsRanked F.autos)
     (there : t < length F.autos) where
@@ -133,7 +123,7 @@ module _ (bs : List BoxFace) (r f : ℕ) (F : Forest) (t : ℕ) (ranked : Every 
       → component_at G.autos u ≡ owner a x p r → HasGiver bs r f G
   giver_at G u p x own at e =
       let k = owner_found bs r f a a_right x p own
-      (ap (λ (b : Automaton). child_gives bs f (slots_at (top_rule b).symbol) p) (sym e) ∙ at.gives) in (
+      (ap (λ (b : Automaton). child_gives bs f (symbol_slots (top_rule b).symbol) p) (sym e) ∙ at.gives) in (
         u,
         k.at,
         record {

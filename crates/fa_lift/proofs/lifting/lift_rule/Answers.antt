@@ -6,10 +6,11 @@ use Rattle.ta_core.specs.declared.symbol.Slot.{Slot}
 use Rattle.fa_core.specs.declared.faces.BoxFace.{BoxFace}
 use Rattle.fa_core.specs.declared.forest.Forest.{Forest}
 use Rattle.fa_core.specs.Cells.{edges}
+use Rattle.fa_core.specs.Folding.{symbol_slots}
 use Rattle.fa_merge.proofs.MergedAnywhere.{nat_cases}
 use Rattle.fa_merge.proofs.PlacedForests.{component_has}
 use Rattle.fa_sound.specs.Components.{component_at}
-use Rattle.fa_lift.specs.Lift.{MayRefer, Owns, slot_gives, slots_at}
+use Rattle.fa_lift.specs.Lift.{MayRefer, Owns, slot_gives}
 use Rattle.fa_lift.specs.inner.Lifting.{HasLifts, IsLift}
 use Rattle.fa_lift.proofs.LiftLists.{lifts_left, lifts_right, owns_at, owned_at, owned_within}
 use Rattle.fa_lift.proofs.lifting.lift_rule.Goals as goal
@@ -25,7 +26,7 @@ lift_at-requires-clause-owns c =
     let a = component_at F.autos c.args.from in
     let x = c.args.rule.now in
     let ranked = component_has IsRanked F.autos c.args.from c.known.ensures.ranked c.requires.from in
-    let here : slice_get (edges (slots_at x.symbol) x.children) c.loop-place.place ≡ Some c.at-edge.result.now =
+    let here : slice_get (edges (symbol_slots x.symbol) x.children) c.loop-place.place ≡ Some c.at-edge.result.now =
     ap (λ (es : List (Slot × ℕ)). slice_get es c.loop-place.place) (sym c.in_ok-edges.ensures) ∙ c.at-edge.ensures in
     let boxes : c.as_slice-boxes.result.now ≡ s.face.boxes = rw c.face.ensures at c.as_slice-boxes.ensures in
     let rules : c.rules_of.result.now ≡ a.rules = c.rules_of.ensures
@@ -49,7 +50,7 @@ loop-place-preserved c =
     let t = c.args.from in
     let n = c.loop-place.place in
     let ranked = component_has IsRanked F.autos t c.known.ensures.ranked c.requires.from in
-    let here : slice_get (edges (slots_at x.symbol) x.children) n ≡ Some c.at-edge.result.now =
+    let here : slice_get (edges (symbol_slots x.symbol) x.children) n ≡ Some c.at-edge.result.now =
     ap (λ (es : List (Slot × ℕ)). slice_get es n) (sym c.in_ok-edges.ensures) ∙ c.at-edge.ensures in
     let boxes : c.as_slice-boxes.result.now ≡ s.face.boxes = rw c.face.ensures at c.as_slice-boxes.ensures in
     let inv = c.loop-place.invariant in
@@ -98,8 +99,8 @@ returns-clause-all c = λ p own.
     let x = c.args.rule.now in
     let ranked = component_has IsRanked s.forest.autos c.args.from c.known.ensures.ranked c.requires.from in
     let l = owned_within s.face.boxes c.args.root c.args.field a ranked x c.requires.rule p own in
-    let m : length c.in_ok-edges.edges ≡ length (edges (slots_at x.symbol) x.children) = ap (λ (es : List (Slot × ℕ)).
-    length es) c.in_ok-edges.ensures in
+    let m : length c.in_ok-edges.edges ≡ length (edges (symbol_slots x.symbol) x.children) =
+    ap (λ (es : List (Slot × ℕ)). length es) c.in_ok-edges.ensures in
     let n = c.len-place-end.ensures in
     let end = c.loop-place-test.false in
     c.loop-place.invariant.1 p (omega (arith, l, m, n, end)) own
