@@ -1,9 +1,7 @@
 -- Box edges for one field after the other of a root's cell opened.
-use Rattle.std.proofs.Common.{◌≡◌, inl, inr, ℕ, zero, suc, ◌<◌, length, List, [], ◌∷◌, ◌++◌, refl, sym, subst, ◌∙◌}
-use Rattle.std.proofs.Common.{Option, Some, None, slice_get}
-use Rattle.std.proofs.lemmas.Option.{none-some, same_Some}
+use Rattle.std.proofs.Common.{◌≡◌, inl, inr, ℕ, zero, suc, List, [], ◌∷◌, ◌++◌, sym, subst, ◌∙◌}
 use Rattle.fore_base.specs.Lists.{IsIn, Every}
-use Rattle.fore_base.proofs.ListLemmas.{every_in, every_push, every_weaker, in_every, in_left, in_last, in_mapped}
+use Rattle.fore_base.proofs.ListLemmas.{every_in, every_push, every_weaker, in_every, in_left, in_last}
 use Rattle.ta_core.specs.Single.{HasOneTop}
 use Rattle.fa_core.specs.declared.boxes.BoxDef.{BoxDef}
 use Rattle.fa_core.specs.declared.faces.BoxFace.{BoxFace}
@@ -13,10 +11,10 @@ use Rattle.fa_core.specs.declared.forest.Target.{Target}
 use Rattle.fa_core.specs.declared.forest.Target.TheVariants.{At}
 use Rattle.fa_core.specs.Boxes.{Boxes, IsBoxTable}
 use Rattle.fa_core.specs.Boxless.{HasNoBoxes}
-use Rattle.fa_core.specs.Dressed.{Nodes, SeenField, SeenLink, SeenHook}
-use Rattle.fa_core.specs.Filled.{fields_in, gives_in_of}
-use Rattle.fa_core.specs.Member.{Regroups, RegroupsInto}
-use Rattle.fa_core.specs.Ways.{fields_out, gives_out_of}
+use Rattle.fa_core.specs.Dressed.{SeenField, SeenLink, SeenHook}
+use Rattle.fa_core.specs.Filled.{gives_in_of}
+use Rattle.fa_core.specs.Member.{Regroups}
+use Rattle.fa_core.specs.Ways.{gives_out_of}
 use Rattle.fa_core.proofs.Counts.{in_or_out}
 use Rattle.fa_back.specs.Insides.{AreRankedInsides}
 use Rattle.fa_sound.specs.Components.{component_at}
@@ -24,14 +22,15 @@ use Rattle.fa_sound.specs.Soundness.{SoundForest, IsSigned}
 use Rattle.fa_sound.specs.Unions.{forests}
 use Rattle.fa_split.specs.Divided.{HasVarsOf}
 use Rattle.fa_unfold.specs.Opens.{Item, IsCell, HasSlot}
+use Rattle.fa_opening.specs.Each.{OfSome}
 use Rattle.fa_opening.specs.Opened.{HasFieldsAlone, IsAnyField, IsBared, IsEdgeFor, IsThatField, OpensFrom, OpensInto}
 use Rattle.fa_opening.specs.Opened.{StaysPlain}
 use Rattle.fa_opening.specs.inner.Clearing.{AreIn, AreNamed, IsCleared, IsOpenedPart}
-use Rattle.fa_opening.specs.inner.Rounds.{IsAtRoot, OfSome}
+use Rattle.fa_opening.specs.inner.Rounds.{IsAtRoot}
 use Rattle.fa_opening.proofs.BaredFields.{bared_fields}
 use Rattle.fa_opening.proofs.BaredKept.{bared_kept}
 use Rattle.fa_opening.proofs.BaredRoots.{bared}
-use Rattle.fa_opening.proofs.OpenedForests.{from_more, from_on, from_regrouped, into_more, into_on}
+use Rattle.fa_opening.proofs.OpenedForests.{from_more, from_on, from_regrouped, into_each, into_more}
 use Rattle.fa_opening.proofs.Rounds.{every_forest}
 use Rattle.fa_opening.proofs.Steps.{in_forests, over_of, root_there}
 
@@ -129,11 +128,8 @@ module _ (t : Boxes) (table : IsBoxTable t) (insides : AreRankedInsides t.defs) 
       → ((S : SoundForest) → IsIn S parts → OpensInto bs T r (IsThatField f) S.forest (forests made))
       → OpensInto bs T r IsAnyField F (forests made)
   cleared_whole fs f parts made h into whole =
-      into_on bs r IsAnyField T F (forests parts) (forests made) (cleared_vars fs parts h) target into
-      (λ G i.
-      (let m = in_mapped (λ (z : SoundForest). z.forest) G parts i in
-      subst (λ (H : Forest). OpensInto bs T r IsAnyField H (forests made)) (sym m.2)
-      (into_more bs r (IsThatField f) T IsAnyField (λ g k. tt) m.0.forest (forests made) (whole m.0 m.1))))
+      into_each bs r IsAnyField T F parts (forests made) (cleared_vars fs parts h) target into
+      (λ S i. into_more bs r (IsThatField f) T IsAnyField (λ g k. tt) S.forest (forests made) (whole S i))
 
   -- No field is left.
 

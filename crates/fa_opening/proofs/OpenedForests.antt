@@ -1,11 +1,11 @@
 -- Forests with box edges replaced, one after the other.
-use Rattle.std.proofs.Common.{◌≡◌, inl, inr, ℕ, List, [], ◌∷◌, ◌++◌, map, refl, sym, ap, subst, ◌∙◌}
+use Rattle.std.proofs.Common.{◌≡◌, inl, inr, ℕ, List, [], ◌∷◌, map, refl, sym, ap, subst, ◌∙◌}
 use Rattle.fore_base.specs.Lists.{IsIn, Every}
 use Rattle.fore_base.specs.declared.shape.Shape.{Shape}
 use Rattle.fore_base.specs.declared.store.Store.{Store}
 use Rattle.fore_base.specs.declared.store.Value.{Value}
 use Rattle.fore_base.specs.declared.store.Value.TheVariants.{Dangling as DanglingValue}
-use Rattle.fore_base.proofs.ListLemmas.{every_in}
+use Rattle.fore_base.proofs.ListLemmas.{every_in, in_mapped}
 use Rattle.fa_core.specs.declared.boxes.BoxDef.{BoxDef}
 use Rattle.fa_core.specs.declared.faces.BoxFace.{BoxFace}
 use Rattle.fa_core.specs.declared.forest.Forest.{Forest}
@@ -22,7 +22,6 @@ use Rattle.fa_split.specs.Divided.{HasVarsOf}
 use Rattle.fa_unfold.specs.Opens.{Item, opened}
 use Rattle.fa_unfold.specs.Unfolded.{Unfolded}
 use Rattle.fa_unfold.specs.UnfoldingOf.{HaveMembersOf}
-use Rattle.fa_unfold.proofs.CutLists.{forests_left, forests_right}
 use Rattle.fa_unfold.proofs.Opening.{facts_opened, opens_facts, opens_keeps}
 use Rattle.fa_unfold.proofs.UnfoldedMembers.{items_regrouped}
 use Rattle.fa_opening.specs.Opened.{IsEdgeForRoot, IsEdgeForSome, IsOpened, OpensFrom, OpensInto}
@@ -112,7 +111,7 @@ module _ (bs : List BoxFace) (r : ℕ) (P : ℕ → Type 0) where
         let z = a w.0 w.1 in
         (z.0, z.1, opened_on F G H z.0 w.0 k v i z.2 w.2)
 
-    pub into_on : (F : Forest) (Gs Hs : List Forest) → Every (HasVarsOf F) Gs → IsIn (At r) F.vars
+    into_on : (F : Forest) (Gs Hs : List Forest) → Every (HasVarsOf F) Gs → IsIn (At r) F.vars
         → OpensInto bs T r P F Gs → ((G : Forest) → IsIn G Gs → OpensInto bs T r P G Hs) → OpensInto bs T r P F Hs
     into_on F Gs Hs v i a b d h =
         let w = a d h in
@@ -125,6 +124,14 @@ module _ (bs : List BoxFace) (r : ℕ) (P : ℕ → Type 0) where
             opened_on F w.0 z.0 d w.2.0 z.2.0 (every_in (HasVarsOf F) Gs w.0 v w.1).0 i w.2.2 z.2.2,
           ),
         )
+
+    pub into_each : (F : Forest) (parts : List SoundForest) (Hs : List Forest) → Every (HasVarsOf F) (forests parts)
+        → IsIn (At r) F.vars → OpensInto bs T r P F (forests parts)
+        → ((S : SoundForest) → IsIn S parts → OpensInto bs T r P S.forest Hs) → OpensInto bs T r P F Hs
+    into_each F parts Hs v i a b = into_on F (forests parts) Hs v i a
+        (λ G j.
+        (let m = in_mapped (λ (S : SoundForest). S.forest) G parts j in
+        subst (λ (H : Forest). OpensInto bs T r P H Hs) (sym m.2) (b m.0 m.1)))
 
     -- more fields
     opened_more : (Q : ℕ → Type 0) → ((f : ℕ) → P f → Q f) → (F G : Forest) (d e : Nodes) → IsOpened bs r P F G d e
@@ -156,15 +163,6 @@ module _ (bs : List BoxFace) (r : ℕ) (P : ℕ → Type 0) where
         let w = c d h in
         let z = w.2.1 in
         (w.0, w.1, (w.2.0, z.of, regrouped_opened F w.0 d w.2.0 z.same_cells z.vars z.data_vars))
-
-    -- lists put together
-    pub into_left : (F : Forest) (xs ys : List SoundForest) → OpensInto bs T r P F (forests xs)
-        → OpensInto bs T r P F (forests (xs ++ ys))
-    into_left F xs ys a d h = let w = a d h in (w.0, forests_left xs ys w.0 w.1, w.2)
-
-    pub into_right : (F : Forest) (xs ys : List SoundForest) → OpensInto bs T r P F (forests ys)
-        → OpensInto bs T r P F (forests (xs ++ ys))
-    into_right F xs ys a d h = let w = a d h in (w.0, forests_right xs ys w.0 w.1, w.2)
 
     -- Members.
 

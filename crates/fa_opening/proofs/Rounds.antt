@@ -1,8 +1,8 @@
 -- Rounds: in each, one box edge is replaced in each of the forests that has one.
-use Rattle.std.proofs.Common.{◌≡◌, inl, inr, ℕ, suc, false, true≢false, length, List, [], ◌∷◌, ◌++◌, refl, sym}
+use Rattle.std.proofs.Common.{◌≡◌, inl, inr, ℕ, suc, false, true≢false, length, List, [], ◌∷◌, refl, sym}
 use Rattle.std.proofs.Common.{subst, ◌∙◌, Option, Some, None, slice_get}
 use Rattle.fore_base.specs.Lists.{IsIn, Every}
-use Rattle.fore_base.proofs.ListLemmas.{every_in, every_map, every_weaker, in_every, in_from_place, in_mapped}
+use Rattle.fore_base.proofs.ListLemmas.{every_in, every_map, every_weaker, in_every, in_from_place}
 use Rattle.ta_core.specs.Single.{HasOneTop}
 use Rattle.ta_core.specs.declared.symbol.Slot.{Slot}
 use Rattle.fa_core.specs.declared.boxes.BoxDef.{BoxDef}
@@ -23,14 +23,14 @@ use Rattle.fa_sound.specs.Unions.{forests}
 use Rattle.fa_split.specs.Divided.{HasVarsOf}
 use Rattle.fa_lift.specs.Lift.{IsLiftOf, IsProvider}
 use Rattle.fa_unfold.specs.UnfoldingOf.{root_slots}
-use Rattle.fa_unfold.proofs.CutLists.{forests_left, forests_right}
+use Rattle.fa_opening.specs.Each.{OfSome}
 use Rattle.fa_opening.specs.Opened.{IsBared, IsThatField, OpensFrom, OpensInto, StaysPlain, slot_covers}
 use Rattle.fa_opening.specs.inner.Rounds.{HasGiver, IsAtRoot, IsChoiceOf, IsCoverAt, IsLowered, IsReady}
-use Rattle.fa_opening.specs.inner.Rounds.{IsRound, IsStepped, OfSome}
+use Rattle.fa_opening.specs.inner.Rounds.{IsRound, IsStepped}
 use Rattle.fa_opening.proofs.BaredRoots.{bared}
 use Rattle.fa_opening.proofs.LiftedGivers.{lifted_giver}
 use Rattle.fa_opening.proofs.LowerEdges.{below_first, below_regrouped}
-use Rattle.fa_opening.proofs.OpenedForests.{from_on, from_regrouped, from_self, into_on, into_regrouped}
+use Rattle.fa_opening.proofs.OpenedForests.{from_on, from_regrouped, from_self, into_each, into_regrouped}
 use Rattle.fa_opening.proofs.OpenedForests.{regrouped_opened}
 use Rattle.fa_opening.proofs.Steps.{in_forests, over_of, root_there}
 
@@ -47,14 +47,6 @@ some_of R parts S i made h = every_weaker (R S) (OfSome R parts) made (λ s k. (
 
 pub every_forest : (P : Forest → Type 0) (ss : List SoundForest) → Every (λ s. P s.forest) ss → Every P (forests ss)
 every_forest P ss h = every_map (λ (s : SoundForest). s.forest) P ss h
-
-pub regroups_left : (T : List BoxDef) (F : Forest) (xs ys : List SoundForest) → RegroupsInto T F (forests xs)
-    → RegroupsInto T F (forests (xs ++ ys))
-regroups_left T F xs ys a d h = let w = a d h in (w.0, forests_left xs ys w.0 w.1, w.2)
-
-pub regroups_right : (T : List BoxDef) (F : Forest) (xs ys : List SoundForest) → RegroupsInto T F (forests ys)
-    → RegroupsInto T F (forests (xs ++ ys))
-regroups_right T F xs ys a d h = let w = a d h in (w.0, forests_right xs ys w.0 w.1, w.2)
 
 -- the forests with one rule chosen at a root
 pub choices : (r : ℕ) (S : SoundForest) (made : List SoundForest)
@@ -134,20 +126,22 @@ module _ (t : Boxes) (r f : ℕ) where
     part_vars : (S : SoundForest) → IsIn S parts → HasVarsOf s.forest S.forest
     part_vars S i = every_in (HasVarsOf s.forest) (forests parts) S.forest vars (in_forests parts S i)
 
-    pub parts_ready : Every (IsAtRoot t r) parts
-    parts_ready = in_every (IsAtRoot t r) parts
-        (λ S i. record {
-          face = face ∙ sym (every_in (λ (z : SoundForest). z.face ≡ s.face) parts S faces i);
-          target = subst (λ (xs : List Target). IsIn (At r) xs) (sym (part_vars S i).0) target;
-        })
+    part_ready : (S : SoundForest) → IsIn S parts → IsAtRoot t r S
+    part_ready S i = record {
+      face = face ∙ sym (every_in (λ (z : SoundForest). z.face ≡ s.face) parts S faces i);
+      target = subst (λ (xs : List Target). IsIn (At r) xs) (sym (part_vars S i).0) target;
+    }
 
     pub parts_give : (k : ℕ) → IsProvider s.face.boxes s.forest r f k
         → Every (IsLiftOf s.face.boxes s.forest r f k) (forests parts)
-        → Every (λ (z : SoundForest). HasGiver bs r f z.forest) parts
-    parts_give k h lifts = in_every (λ (z : SoundForest). HasGiver bs r f z.forest) parts
-        (λ S i. subst (λ (x : Face). HasGiver x.boxes r f S.forest) (sym face)
-        (lifted_giver s.face.boxes r f s.forest k signed.ranked h.there S.forest
-        (every_in (IsLiftOf s.face.boxes s.forest r f k) (forests parts) S.forest lifts (in_forests parts S i))))
+        → Every (λ (z : SoundForest). IsAtRoot t r z × HasGiver bs r f z.forest) parts
+    parts_give k h lifts = in_every (λ (z : SoundForest). IsAtRoot t r z × HasGiver bs r f z.forest) parts
+        (λ S i. (
+          part_ready S i,
+          subst (λ (x : Face). HasGiver x.boxes r f S.forest) (sym face)
+              (lifted_giver s.face.boxes r f s.forest k signed.ranked h.there S.forest
+              (every_in (IsLiftOf s.face.boxes s.forest r f k) (forests parts) S.forest lifts (in_forests parts S i))),
+        ))
 
     pub lifted_lowered : (Every HasNoBoxes s.forest.autos → ⊥) → Every (Regroups T s.forest) (forests parts)
         → (made : List SoundForest)
@@ -176,11 +170,8 @@ module _ (t : Boxes) (r f : ℕ) where
         → ((S : SoundForest) → IsIn S parts → OpensInto bs T r (IsThatField f) S.forest (forests made))
         → OpensInto bs T r (IsThatField f) s.forest (forests made)
     lifted_whole into made whole =
-        into_on bs r (IsThatField f) T s.forest (forests parts) (forests made) vars target
-        (into_regrouped bs r (IsThatField f) T s.forest (forests parts) into)
-        (λ G i.
-        (let m = in_mapped (λ (z : SoundForest). z.forest) G parts i in
-        subst (λ (H : Forest). OpensInto bs T r (IsThatField f) H (forests made)) (sym m.2) (whole m.0 m.1)))
+        into_each bs r (IsThatField f) T s.forest parts (forests made) vars target
+        (into_regrouped bs r (IsThatField f) T s.forest (forests parts) into) whole
 
   -- Round after round.
 
@@ -230,10 +221,7 @@ module _ (t : Boxes) (r f : ℕ) where
         → ((S : SoundForest) → IsIn S parts → OpensInto bs T r (IsThatField f) S.forest (forests made))
         → OpensInto bs T r (IsThatField f) F (forests made)
     round_whole k parts made rounds into whole =
-        into_on bs r (IsThatField f) T F (forests parts) (forests made) (round_vars k parts rounds) target into
-        (λ G i.
-        (let m = in_mapped (λ (z : SoundForest). z.forest) G parts i in
-        subst (λ (H : Forest). OpensInto bs T r (IsThatField f) H (forests made)) (sym m.2) (whole m.0 m.1)))
+        into_each bs r (IsThatField f) T F parts (forests made) (round_vars k parts rounds) target into whole
 
   -- the first round
   pub round_first : (s : SoundForest) → t.face ≡ s.face → IsSigned s → IsBoxTable t → AreRankedInsides t.defs

@@ -1,7 +1,7 @@
 -- Forests in which a field is shown, made of those without box edges for it.
 use Rattle.std.proofs.Common.{◌≡◌, ℕ, List, sym, subst, ◌∙◌}
 use Rattle.fore_base.specs.Lists.{IsIn, Every}
-use Rattle.fore_base.proofs.ListLemmas.{every_in, every_weaker, in_every, in_mapped}
+use Rattle.fore_base.proofs.ListLemmas.{every_in, every_weaker, in_every}
 use Rattle.fa_core.specs.declared.boxes.BoxDef.{BoxDef}
 use Rattle.fa_core.specs.declared.faces.BoxFace.{BoxFace}
 use Rattle.fa_core.specs.declared.faces.Face.{Face}
@@ -16,10 +16,10 @@ use Rattle.fa_split.specs.Divided.{HasVarsOf}
 use Rattle.fa_split.specs.Giving.{RulesGive}
 use Rattle.fa_split.proofs.LinksGive.{faces_give}
 use Rattle.fa_edit.specs.Plain.{IsPlainAt}
+use Rattle.fa_opening.specs.Each.{OfSome}
 use Rattle.fa_opening.specs.Opened.{IsBared, IsThatField, OpensFrom, OpensInto, StaysPlain}
-use Rattle.fa_opening.specs.inner.Rounds.{OfSome}
 use Rattle.fa_opening.specs.inner.Showing.{IsBaredPart, IsShownOf}
-use Rattle.fa_opening.proofs.OpenedForests.{from_on, from_regrouped, into_on, into_regrouped}
+use Rattle.fa_opening.proofs.OpenedForests.{from_on, from_regrouped, into_each, into_regrouped}
 use Rattle.fa_opening.proofs.Rounds.{every_forest}
 use Rattle.fa_opening.proofs.Steps.{in_forests}
 
@@ -96,8 +96,5 @@ module _ (s : SoundForest) (T : List BoxDef) (r f : ℕ) (target : IsIn (At r) s
       → ((S : SoundForest) → IsIn S parts → (T : List BoxDef) → RegroupsInto T S.forest (forests made))
       → OpensInto bs T r (IsThatField f) s.forest (forests made)
   shown_whole into made whole =
-      into_on bs r (IsThatField f) T s.forest (forests parts) (forests made) vars target into
-      (λ G i.
-      (let m = in_mapped (λ (z : SoundForest). z.forest) G parts i in
-      subst (λ (H : Forest). OpensInto bs T r (IsThatField f) H (forests made)) (sym m.2)
-      (into_regrouped bs r (IsThatField f) T m.0.forest (forests made) (whole m.0 m.1 T))))
+      into_each bs r (IsThatField f) T s.forest parts (forests made) vars target into
+      (λ S i. into_regrouped bs r (IsThatField f) T S.forest (forests made) (whole S i T))

@@ -1,7 +1,7 @@
 -- Lists of forests in which one box edge after the other is replaced.
 use Rattle.std.proofs.Common.{◌≡◌, ℕ, ◌<◌, length, List, refl, sym, subst, ◌∙◌}
 use Rattle.fore_base.specs.Lists.{IsIn, Every}
-use Rattle.fore_base.proofs.ListLemmas.{every_in, every_weaker, in_every, in_map, in_mapped}
+use Rattle.fore_base.proofs.ListLemmas.{every_in, every_weaker, in_every, in_map}
 use Rattle.fa_core.specs.declared.boxes.BoxDef.{BoxDef}
 use Rattle.fa_core.specs.declared.faces.BoxFace.{BoxFace}
 use Rattle.fa_core.specs.declared.faces.Face.{Face}
@@ -18,10 +18,11 @@ use Rattle.fa_split.specs.Divided.{HasVarsOf}
 use Rattle.fa_split.proofs.SplitCells.{refers_well}
 use Rattle.fa_unfold.specs.Sites.{IsOver}
 use Rattle.fa_unfold.specs.Unfolded.{UnfoldsFrom, UnfoldsInto}
+use Rattle.fa_opening.specs.Each.{OfSome}
 use Rattle.fa_opening.specs.Opened.{IsThatField, OpensFrom, OpensInto}
-use Rattle.fa_opening.specs.inner.Rounds.{IsChoiceOf, IsLowered, IsNeeded, OfSome}
+use Rattle.fa_opening.specs.inner.Rounds.{IsChoiceOf, IsLowered, IsNeeded}
 use Rattle.fa_opening.proofs.LowerEdges.{below_regrouped, below_unfolded}
-use Rattle.fa_opening.proofs.OpenedForests.{from_on, from_regrouped, into_on, into_regrouped, unfolded_opened}
+use Rattle.fa_opening.proofs.OpenedForests.{from_on, from_regrouped, into_each, into_regrouped, unfolded_opened}
 use Rattle.fa_opening.proofs.PlainForests.{none_needed}
 use Rattle.fa_opening.proofs.SlotEdges.{needed_edge}
 
@@ -114,11 +115,8 @@ module _ (t : Boxes) (s : SoundForest) (face : t.face ≡ s.face) (signed : IsSi
         → ((S : SoundForest) → IsIn S parts → (T : List BoxDef) → RegroupsInto T S.forest (forests made))
         → OpensInto bs t.defs r (IsThatField f) F (forests made)
     lowered_whole made into whole =
-        into_on bs r (IsThatField f) t.defs F (forests parts) (forests made) vars target (one_into (forests parts) into)
-        (λ G i.
-        (let m = in_mapped (λ (z : SoundForest). z.forest) G parts i in
-        subst (λ (H : Forest). OpensInto bs t.defs r (IsThatField f) H (forests made)) (sym m.2)
-        (into_regrouped bs r (IsThatField f) t.defs m.0.forest (forests made) (whole m.0 m.1 t.defs))))
+        into_each bs r (IsThatField f) t.defs F parts (forests made) vars target (one_into (forests parts) into)
+        (λ S i. into_regrouped bs r (IsThatField f) t.defs S.forest (forests made) (whole S i t.defs))
 
     -- the root is there
     pub part_roots : Every IsSigned parts → Every (λ (z : SoundForest). r < length z.forest.autos) parts

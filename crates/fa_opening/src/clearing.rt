@@ -3,15 +3,13 @@
 ghost use Rattle.std.specs.Prelude.{◌≡◌, ℕ, [], IfOk};
 ghost use Rattle.fore_base.specs.Lists.{IsIn, Every};
 ghost use Rattle.fa_core.specs.declared.forest.Target.TheVariants.{At};
-ghost use Rattle.fa_sound.specs.Soundness.{SoundForest};
 ghost use Rattle.fa_sound.specs.Unions.{forests};
 ghost use Rattle.fa_split.specs.Divided.{HasVarsOf};
 ghost use Rattle.fa_unfold.specs.UnfoldingOf.{HaveMembersOf};
-ghost use Rattle.fa_opening.specs.Opened.{HasFieldsAlone, IsAnyField, IsBared, IsThatField, OpensFrom};
-ghost use Rattle.fa_opening.specs.Opened.{OpensInto, StaysPlain};
-ghost use Rattle.fa_opening.specs.inner.Clearing.{AreIn, AreNamed, IsCleared, IsOpenedPart};
-ghost use Rattle.fa_opening.specs.inner.Rounds.{IsAtRoot, OfSome};
+ghost use Rattle.fa_opening.specs.Opened.{HasFieldsAlone, IsAnyField, IsBared, OpensFrom, OpensInto, StaysPlain};
+ghost use Rattle.fa_opening.specs.inner.Clearing.{AreIn, AreNamed, IsCleared};
 
+use crate::applying::{Step, on_each};
 use crate::choosing::known_each;
 use crate::opening::open_edges;
 use fa_back::ranked_insides;
@@ -74,47 +72,43 @@ fn open_fields(
     ranked_insides(table);
     let mut made = parts;
     for field in fields {
-        made = open_each(alloc, made.as_slice(), table, root, *field)?;
+        let step = OpenField {
+            table,
+            root,
+            field: *field,
+        };
+        made = on_each(alloc, &step, made.as_slice())?;
     }
     Ok(made)
 }
 
-/// So for one field.
-fn open_each(
-    alloc: Global,
-    parts: &[Sound],
-    table: &BoxTable,
+/// The box edges for one field opened.
+#[derive(Drop)]
+struct OpenField<'a> {
+    table: &'a BoxTable,
     root: u32,
     field: u32,
-) -> Mem<List<Sound>>
-    requires { Every (IsAtRoot table.now root) parts.now }
-    ensures each { IfOk result (Every (OfSome (IsOpenedPart table.now root field) parts.now)) }
-    ensures whole { IfOk result (λ made. (S : SoundForest) → IsIn S parts.now
-        → OpensInto table.now.face.boxes table.now.defs root (IsThatField field) S.forest (forests made)) }
-{
-    let mut made = List::new(alloc);
-    for part in parts {
-        let more = open_part(alloc, part, table, root, field)?;
-        made.append(more)?;
-    }
-    Ok(made)
 }
 
-fn open_part(
-    alloc: Global,
-    part: &Sound,
-    table: &BoxTable,
-    root: u32,
-    field: u32,
-) -> Mem<List<Sound>>
-    requires { IsAtRoot table.now root part.now }
-    ensures each { IfOk result (Every (IsOpenedPart table.now root field part.now)) }
-    ensures whole { IfOk result (λ made.
-        OpensInto table.now.face.boxes table.now.defs root (IsThatField field) part.now.forest (forests made)) }
-{
-    let made = open_edges(alloc, part, table, root, field)?;
-    known_each(made.as_slice());
-    Ok(made)
+impl<'a> Step for OpenField<'a> {
+    ghost use Rattle.fa_opening.specs.Opened.{IsThatField, OpensInto};
+    ghost use Rattle.fa_opening.specs.inner.Clearing.{IsOpenedPart};
+    ghost use Rattle.fa_opening.specs.inner.Rounds.{IsAtRoot};
+
+    ghost accepts = { λ step. IsAtRoot step.table.now step.root };
+
+    ghost relates = { λ step. IsOpenedPart step.table.now step.root step.field };
+
+    ghost goes_into = { λ step S.
+        OpensInto step.table.now.face.boxes step.table.now.defs step.root (IsThatField step.field) S.forest };
+
+    ghost goes_on = { λ step S Gs Hs more k d h. let w = k d h in (w.0, more w.0 w.1, w.2) };
+
+    fn apply(&self, alloc: Global, part: &Sound) -> Mem<List<Sound>> {
+        let made = open_edges(alloc, part, self.table, self.root, self.field)?;
+        known_each(made.as_slice());
+        Ok(made)
+    }
 }
 
 /// The fields that the boxes cover and give, each once.

@@ -1,20 +1,18 @@
 // A field of a root's cell opened, until one leaf stands there.
 
-ghost use Rattle.std.specs.Prelude.{◌≡◌, ◌∷◌, [], List, None, Some, IfOk};
+ghost use Rattle.std.specs.Prelude.{◌≡◌, List, None, Some, IfOk};
 ghost use Rattle.fore_base.specs.Lists.{IsIn, Every};
 ghost use Rattle.fa_core.specs.Member.{RegroupsInto};
 ghost use Rattle.fa_core.specs.declared.boxes.BoxDef.{BoxDef};
 ghost use Rattle.fa_core.specs.declared.forest.Target.TheVariants.{At};
-ghost use Rattle.fa_sound.specs.Soundness.{SoundForest};
 ghost use Rattle.fa_sound.specs.Unions.{forests};
 ghost use Rattle.fa_split.specs.Divided.{HasVarsOf};
 ghost use Rattle.fa_edit.specs.Plain.{IsPlainAt, place_at};
 ghost use Rattle.fa_unfold.specs.UnfoldingOf.{HaveMembersOf};
 ghost use Rattle.fa_opening.specs.Opened.{IsThatField, OpensFrom, OpensInto, StaysPlain};
-ghost use Rattle.fa_opening.specs.inner.Rounds.{OfSome};
 ghost use Rattle.fa_opening.specs.inner.Showing.{IsBaredPart, IsShownOf};
 
-use crate::choosing::as_it_is;
+use crate::applying::{Step, as_it_is, on_each};
 use crate::opening::open_edges;
 use fa_core::table::BoxTable;
 use fa_edit::place_of;
@@ -50,33 +48,36 @@ pub fn open_field(
 {
     table.known();
     let bared = open_edges(alloc, forest, table, root, field)?;
-    let made = split_each(alloc, bared.as_slice(), root, field)?;
+    let made = on_each(alloc, &Split { root, field }, bared.as_slice())?;
     Ok(made)
 }
 
-/// So for forests without box edges for the field.
-fn split_each(alloc: Global, parts: &[Sound], root: u32, field: u32) -> Mem<List<Sound>>
-    requires { Every (IsBaredPart root field) parts.now }
-    ensures each { IfOk result (Every (OfSome (IsShownOf root field) parts.now)) }
-    ensures whole { IfOk result (λ made. (S : SoundForest) → IsIn S parts.now
-        → (T : List BoxDef) → RegroupsInto T S.forest (forests made)) }
-{
-    let mut made = List::new(alloc);
-    for part in parts {
-        let more = split_part(alloc, part, root, field)?;
-        made.append(more)?;
-    }
-    Ok(made)
+/// A forest without box edges for the field, split at it.
+#[derive(Drop)]
+struct Split {
+    root: u32,
+    field: u32,
 }
 
-fn split_part(alloc: Global, part: &Sound, root: u32, field: u32) -> Mem<List<Sound>>
-    requires { IsBaredPart root field part.now }
-    ensures each { IfOk result (Every (IsShownOf root field part.now)) }
-    ensures whole { IfOk result (λ made. (T : List BoxDef) → RegroupsInto T part.now.forest (forests made)) }
-{
-    match place_of(component(part.forest(), root), field) {
-        Some(place) => split_at(alloc, part, root, field, place),
-        None => stay(alloc, part, root, field),
+impl Step for Split {
+    ghost use Rattle.std.specs.Prelude.{List};
+    ghost use Rattle.fa_core.specs.Member.{RegroupsInto};
+    ghost use Rattle.fa_core.specs.declared.boxes.BoxDef.{BoxDef};
+    ghost use Rattle.fa_opening.specs.inner.Showing.{IsBaredPart, IsShownOf};
+
+    ghost accepts = { λ step. IsBaredPart step.root step.field };
+
+    ghost relates = { λ step. IsShownOf step.root step.field };
+
+    ghost goes_into = { λ step S Gs. (T : List BoxDef) → RegroupsInto T S.forest Gs };
+
+    ghost goes_on = { λ step S Gs Hs more k T d h. let w = k T d h in (w.0, more w.0 w.1, w.2) };
+
+    fn apply(&self, alloc: Global, part: &Sound) -> Mem<List<Sound>> {
+        match place_of(component(part.forest(), self.root), self.field) {
+            Some(place) => split_at(alloc, part, self.root, self.field, place),
+            None => stay(alloc, part, self.root, self.field),
+        }
     }
 }
 

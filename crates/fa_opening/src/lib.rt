@@ -6,6 +6,7 @@
 //! together the members of the first.
 #![tactic(auto)]
 
+pub mod applying;
 mod choosing;
 pub mod clearing;
 mod covering;

@@ -3,16 +3,15 @@
 ghost use Rattle.std.specs.Prelude.{◌≡◌, ◌↔◌, ℕ, false, slice_get, IsTrue, IfOk};
 ghost use Rattle.fore_base.specs.Lists.{IsIn, Every};
 ghost use Rattle.fa_core.specs.declared.forest.Target.TheVariants.{At};
-ghost use Rattle.fa_sound.specs.Soundness.{SoundForest};
 ghost use Rattle.fa_sound.specs.Unions.{forests};
 ghost use Rattle.fa_split.specs.Divided.{HasVarsOf};
 ghost use Rattle.fa_lift.specs.Lift.{IsProvider};
 ghost use Rattle.fa_unfold.specs.UnfoldingOf.{HaveMembersOf, root_slots};
 ghost use Rattle.fa_opening.specs.Opened.{IsBared, IsThatField, OpensFrom, OpensInto, StaysPlain, slot_covers};
-ghost use Rattle.fa_opening.specs.inner.Rounds.{HasGiver, IsAtRoot, IsCoverAt, IsLowered, IsReady, IsStepped};
-ghost use Rattle.fa_opening.specs.inner.Rounds.{OfSome};
+ghost use Rattle.fa_opening.specs.inner.Rounds.{IsCoverAt, IsReady, IsStepped};
 
-use crate::choosing::{as_it_is, known_each};
+use crate::applying::{Step, as_it_is, on_each};
+use crate::choosing::known_each;
 use crate::covering::covering_slot;
 use crate::giving::giver;
 use crate::unfolding::unfold_at;
@@ -84,44 +83,39 @@ pub fn open_edges(
     ranked_insides(table);
     let mut made = choose_rule(alloc, forest, root)?;
     for _round in 0..table.len() {
-        made = step_each(alloc, made.as_slice(), table, root, field)?;
+        made = on_each(alloc, &ReplaceEdge { table, root, field }, made.as_slice())?;
     }
     known_each(made.as_slice());
     Ok(made)
 }
 
-/// So with one box edge replaced in each of the forests that has one.
-fn step_each(
-    alloc: Global,
-    parts: &[Sound],
-    table: &BoxTable,
+/// One box edge for the field replaced, in a forest that has one.
+#[derive(Drop)]
+struct ReplaceEdge<'a> {
+    table: &'a BoxTable,
     root: u32,
     field: u32,
-) -> Mem<List<Sound>>
-    requires { Every (IsReady table.now root) parts.now }
-    ensures each { IfOk result (Every (OfSome (λ S. IsStepped table.now root field S.forest) parts.now)) }
-    ensures whole { IfOk result (λ made. (S : SoundForest) → IsIn S parts.now
-        → OpensInto table.now.face.boxes table.now.defs root (IsThatField field) S.forest (forests made)) }
-{
-    let mut made = List::new(alloc);
-    for part in parts {
-        let more = step(alloc, part, table, root, field)?;
-        made.append(more)?;
-    }
-    Ok(made)
 }
 
-/// So in this forest.
-fn step(alloc: Global, forest: &Sound, table: &BoxTable, root: u32, field: u32) -> Mem<List<Sound>>
-    requires { IsReady table.now root forest.now }
-    ensures each { IfOk result (Every (IsStepped table.now root field forest.now.forest)) }
-    ensures whole { IfOk result (λ made.
-        OpensInto table.now.face.boxes table.now.defs root (IsThatField field) forest.now.forest (forests made)) }
-{
-    forest.known();
-    match covering_slot(forest, root, field) {
-        Some(slot) => step_covered(alloc, forest, table, root, field, slot),
-        None => step_given(alloc, forest, table, root, field),
+impl<'a> Step for ReplaceEdge<'a> {
+    ghost use Rattle.fa_opening.specs.Opened.{IsThatField, OpensInto};
+    ghost use Rattle.fa_opening.specs.inner.Rounds.{IsReady, IsStepped};
+
+    ghost accepts = { λ step. IsReady step.table.now step.root };
+
+    ghost relates = { λ step S. IsStepped step.table.now step.root step.field S.forest };
+
+    ghost goes_into = { λ step S.
+        OpensInto step.table.now.face.boxes step.table.now.defs step.root (IsThatField step.field) S.forest };
+
+    ghost goes_on = { λ step S Gs Hs more k d h. let w = k d h in (w.0, more w.0 w.1, w.2) };
+
+    fn apply(&self, alloc: Global, part: &Sound) -> Mem<List<Sound>> {
+        part.known();
+        match covering_slot(part, self.root, self.field) {
+            Some(slot) => step_covered(alloc, part, self.table, self.root, self.field, slot),
+            None => step_given(alloc, part, self.table, self.root, self.field),
+        }
     }
 }
 
@@ -184,7 +178,11 @@ fn step_lifted(
 {
     forest.known();
     let lifted = lift_parent(alloc, forest, root, field)?;
-    let made = unfold_each(alloc, lifted.as_slice(), table, root, field)?;
+    let made = on_each(
+        alloc,
+        &UnfoldGiver { table, root, field },
+        lifted.as_slice(),
+    )?;
     Ok(made)
 }
 
@@ -206,42 +204,33 @@ fn step_bared(
     Ok(made)
 }
 
-/// The forests in which the edge that gives the field, of a root with one rule, is replaced.
-fn unfold_each(
-    alloc: Global,
-    parts: &[Sound],
-    table: &BoxTable,
+/// The edge that gives the field, of a root with one rule, replaced.
+#[derive(Drop)]
+struct UnfoldGiver<'a> {
+    table: &'a BoxTable,
     root: u32,
     field: u32,
-) -> Mem<List<Sound>>
-    requires ready { Every (IsAtRoot table.now root) parts.now }
-    requires given { Every (λ s. HasGiver table.now.face.boxes root field s.forest) parts.now }
-    ensures each { IfOk result (Every (OfSome (λ S. IsLowered table.now root field S.forest) parts.now)) }
-    ensures whole { IfOk result (λ made. (S : SoundForest) → IsIn S parts.now
-        → OpensInto table.now.face.boxes table.now.defs root (IsThatField field) S.forest (forests made)) }
-{
-    let mut made = List::new(alloc);
-    for part in parts {
-        let more = unfold_giver(alloc, part, table, root, field)?;
-        made.append(more)?;
-    }
-    Ok(made)
 }
 
-fn unfold_giver(
-    alloc: Global,
-    part: &Sound,
-    table: &BoxTable,
-    root: u32,
-    field: u32,
-) -> Mem<List<Sound>>
-    requires ready { IsAtRoot table.now root part.now }
-    requires given { HasGiver table.now.face.boxes root field part.now.forest }
-    ensures each { IfOk result (Every (IsLowered table.now root field part.now.forest)) }
-    ensures whole { IfOk result (λ made.
-        OpensInto table.now.face.boxes table.now.defs root (IsThatField field) part.now.forest (forests made)) }
-{
-    let found = giver(alloc, part, root, field)?;
-    let made = unfold_at(alloc, part, table, found.0, found.1, root, field)?;
-    Ok(made)
+impl<'a> Step for UnfoldGiver<'a> {
+    ghost use Rattle.fa_opening.specs.Opened.{IsThatField, OpensInto};
+    ghost use Rattle.fa_opening.specs.inner.Rounds.{HasGiver, IsAtRoot, IsLowered};
+
+    ghost accepts = { λ step S. IsAtRoot step.table.now step.root S
+        × HasGiver step.table.now.face.boxes step.root step.field S.forest };
+
+    ghost relates = { λ step S. IsLowered step.table.now step.root step.field S.forest };
+
+    ghost goes_into = { λ step S.
+        OpensInto step.table.now.face.boxes step.table.now.defs step.root (IsThatField step.field) S.forest };
+
+    ghost goes_on = { λ step S Gs Hs more k d h. let w = k d h in (w.0, more w.0 w.1, w.2) };
+
+    fn apply(&self, alloc: Global, part: &Sound) -> Mem<List<Sound>> {
+        let found = giver(alloc, part, self.root, self.field)?;
+        let made = unfold_at(
+            alloc, part, self.table, found.0, found.1, self.root, self.field,
+        )?;
+        Ok(made)
+    }
 }

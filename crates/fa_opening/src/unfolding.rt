@@ -7,7 +7,8 @@ ghost use Rattle.fa_sound.specs.Unions.{forests};
 ghost use Rattle.fa_opening.specs.Opened.{IsThatField, OpensInto};
 ghost use Rattle.fa_opening.specs.inner.Rounds.{IsLowered, IsNeeded};
 
-use crate::choosing::{choose_each, known_each};
+use crate::applying::on_each;
+use crate::choosing::{Choose, known_each};
 use fa_back::ranked_insides;
 use fa_core::table::BoxTable;
 use fa_sound::Sound;
@@ -39,6 +40,6 @@ pub fn unfold_at(
     ranked_insides(table);
     let parts = unfold(alloc, forest, table, at, slot)?;
     known_each(parts.as_slice());
-    let made = choose_each(alloc, parts.as_slice(), root)?;
+    let made = on_each(alloc, &Choose { root }, parts.as_slice())?;
     Ok(made)
 }

@@ -105,10 +105,6 @@ pub record IsRound (t : Boxes) (r f : ℕ) (F : Forest) (k : ℕ) (s : SoundFore
   pub stage : IsStage t r f F s
   pub left : IsLeft t.face.boxes t.defs r f s.forest k
 
--- the relation holds of s and some item of the list
-abbrev pub OfSome : (SoundForest → SoundForest → Type 0) → List SoundForest → SoundForest → Type 0
-OfSome R parts s = (S : SoundForest) × IsIn S parts × R S s
-
 -- s has one rule of root r of S
 pub record IsChoiceOf (r : ℕ) (S s : SoundForest) : Type 0 where
   pub face_kept : s.face ≡ S.face

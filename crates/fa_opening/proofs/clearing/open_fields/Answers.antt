@@ -5,8 +5,8 @@ use Rattle.fa_opening.specs.inner.Clearing.{IsCleared}
 use Rattle.fa_opening.proofs.ClearedCells.{cleared_next, cleared_ready, cleared_whole}
 use Rattle.fa_opening.proofs.clearing.open_fields.Goals as goal
 
-pub open_each-requires : goal.open_each-requires
-open_each-requires c =
+pub on_each-requires : goal.on_each-requires
+on_each-requires c =
     rw c.as_slice.ensures
     (cleared_ready c.args.table.now c.known.ensures c.ranked_insides.ensures c.args.root c.args._forest.now.forest
     c.requires.target (take c.loop-field.field-index c.args.fields.now) c.loop-field.made c.loop-field.invariant.0)

@@ -5,8 +5,8 @@ use Rattle.fa_opening.proofs.ShownFields.{shown_face, shown_from, shown_parts, s
 use Rattle.fa_opening.proofs.ShownFields.{shown_whole}
 use Rattle.fa_opening.proofs.fields.open_field.Goals as goal
 
-pub split_each-requires : goal.split_each-requires
-split_each-requires c =
+pub on_each-requires : goal.on_each-requires
+on_each-requires c =
     let m = c.in_ok-bared.ensures in
     rw c.as_slice.ensures
     (shown_parts c.args.table.now c.args.forest.now c.requires.face c.known.ensures c.args.root c.args.field

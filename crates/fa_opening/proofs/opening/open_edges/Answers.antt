@@ -28,8 +28,8 @@ loop-round-init c =
           (m.whole t.defs),
     )
 
-pub step_each-requires : goal.step_each-requires
-step_each-requires c =
+pub on_each-requires : goal.on_each-requires
+on_each-requires c =
     let t = c.args.table.now in
     let F = c.args.forest.now.forest in
     let l = c.loop-round-test.true in

@@ -2,19 +2,11 @@ use Rattle.std.proofs.Common.{subst}
 use Rattle.fa_core.specs.declared.faces.Face.{Face}
 use Rattle.fa_opening.specs.Opened.{IsBared}
 use Rattle.fa_opening.proofs.PlainForests.{none_provides}
-use Rattle.fa_opening.proofs.Rounds.{lifted_lowered, lifted_whole, parts_give, parts_ready, stepped}
+use Rattle.fa_opening.proofs.Rounds.{lifted_lowered, lifted_whole, parts_give, stepped}
 use Rattle.fa_opening.proofs.opening.step_lifted.Goals as goal
 
-pub unfold_each-requires-clause-ready : goal.unfold_each-requires-clause-ready
-unfold_each-requires-clause-ready c =
-    let at = c.requires.ready.at in
-    let m = c.in_ok-lifted.ensures in
-    rw c.as_slice.ensures
-    (parts_ready c.args.table.now c.args.root c.args.field c.args.forest.now at.face c.known.ensures at.target
-    c.in_ok-lifted.lifted m.face m.vars)
-
-pub unfold_each-requires-clause-given : goal.unfold_each-requires-clause-given
-unfold_each-requires-clause-given c =
+pub on_each-requires : goal.on_each-requires
+on_each-requires c =
     let at = c.requires.ready.at in
     let m = c.in_ok-lifted.ensures in
     rw c.as_slice.ensures

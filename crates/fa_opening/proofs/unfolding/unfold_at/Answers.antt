@@ -7,8 +7,8 @@ unfold-requires-clause-can c =
     needed_can c.args.table.now.face.boxes c.args.root c.args._field c.args.forest.now.forest c.args.at c.args.slot
     c.requires.edge
 
-pub choose_each-requires : goal.choose_each-requires
-choose_each-requires c =
+pub on_each-requires : goal.on_each-requires
+on_each-requires c =
     let m = c.in_ok-parts.ensures in
     rw c.as_slice-2.ensures
     (part_roots c.args.table.now c.args.forest.now c.requires.face c.known.ensures c.known-2.ensures

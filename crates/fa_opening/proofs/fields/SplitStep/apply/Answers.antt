@@ -1,5 +1,5 @@
 use Rattle.std.proofs.Common.{◌∙◌, sym}
-use Rattle.fa_opening.proofs.fields.split_part.Goals as goal
+use Rattle.fa_opening.proofs.fields.SplitStep.apply.Goals as goal
 
 pub component-requires : goal.component-requires
 component-requires c = rw c.forest.ensures c.requires.bared.root
