@@ -2,7 +2,7 @@
 use Rattle.std.proofs.Common.{◌≡◌, ◌↔◌, inl, inr, ℕ, zero, suc, ◌<◌, length, List, [], ◌∷◌, refl, sym, ap, subst, ◌∙◌}
 use Rattle.std.proofs.Common.{slice_get, get_or, Some, arith}
 use Rattle.fore_base.specs.Lists.{IsIn}
-use Rattle.ta_core.specs.Auto.{Automaton, IsRanked}
+use Rattle.ta_core.specs.Auto.{Automaton}
 use Rattle.ta_core.specs.Language.{RunOf, InLanguage, HasSameLanguage}
 use Rattle.ta_core.specs.declared.tree.Tree.{Tree}
 use Rattle.fa_core.specs.declared.faces.BoxFace.{BoxFace}
@@ -37,9 +37,6 @@ same_states a b p q = (
     (λ w. (state_tree a p t).1 ((h t).1 ((state_tree b q t).0 w))),
   )),
 )
-
-pub state_ranked : (a : Automaton) (q : ℕ) → IsRanked a → q < a.states → IsRanked (at_state a q)
-state_ranked a q h l = ((l, tt), h.1)
 
 -- Signatures.
 

@@ -18,10 +18,11 @@ use Rattle.fa_split.specs.Split.{CanSplit, top_rule, child_state}
 use Rattle.fa_split.proofs.RunPlaces.{at_index}
 use Rattle.fa_split.proofs.TopRules.{top_in, tree_by_top, top_by_tree}
 use Rattle.fa_join.specs.Joinable.{PairedButOne, SameRuns, SameSignatures, DifferInChild, Joinable}
+use Rattle.fa_join.specs.declared.comparing.Apart.{Apart}
 use Rattle.fa_join.specs.declared.comparing.Apart.TheVariants.{Nowhere, At, More}
 use Rattle.fa_join.specs.declared.differing.Difference.TheVariants.{Nowhere as SameAll, Child}
 use Rattle.fa_join.specs.inner.Apart.{IsApart}
-use Rattle.fa_join.specs.inner.Differing.{SameTops, LookAlike, CanJoin}
+use Rattle.fa_join.specs.inner.Differing.{SameTops, LookAlike, CanJoin, IsBelow}
 use Rattle.fa_join.proofs.Deciding.{paired_there, same_paired, same_but, paired_one, but_one, one_there, never_two}
 use Rattle.fa_join.proofs.JoinedAutos.{same_each, same_back}
 
@@ -71,6 +72,13 @@ same_below a b one_a one_b e h t = (
       ))),
 )
 
+-- rules at the top with one symbol have as many children
+tops_long : (a b : Automaton) → IsRanked a → IsRanked b → HasOneTop a → HasOneTop b → SameTops a b
+    → length (top_rule a).children ≡ length (top_rule b).children
+tops_long a b ranked_a ranked_b one_a one_b e =
+    (every_in (IsRankedRule a.states) a.rules (top_rule a) ranked_a.1 (top_in a one_a)).2 ∙ ap arity e
+    ∙ sym (every_in (IsRankedRule b.states) b.rules (top_rule b) ranked_b.1 (top_in b one_b)).2
+
 -- The languages differ at no root, or at two.
 
 pub nowhere_can : (faces : List BoxFace) (F G : Forest) → LookAlike F G
@@ -101,7 +109,7 @@ module _ (faces : List BoxFace) (F G : Forest) (r : ℕ) (tops_F : Every HasOneT
   abbrev b : Automaton
   b = component_at G.autos r
 
-  pub long : length F.autos ≡ length G.autos
+  long : length F.autos ≡ length G.autos
   long = paired_long SameTops F.autos G.autos alike.tops
 
   pub left : r < length F.autos
@@ -116,13 +124,13 @@ module _ (faces : List BoxFace) (F G : Forest) (r : ℕ) (tops_F : Every HasOneT
   is_b : slice_get G.autos r ≡ Some b
   is_b = component_got G.autos r right
 
-  one_a : HasOneTop a
+  pub one_a : HasOneTop a
   one_a = component_has HasOneTop F.autos r tops_F left
 
-  one_b : HasOneTop b
+  pub one_b : HasOneTop b
   one_b = component_has HasOneTop G.autos r tops_G right
 
-  pub same_symbol : SameTops a b
+  same_symbol : SameTops a b
   same_symbol = paired_there SameTops F.autos G.autos r a b alike.tops is_a is_b
 
   other : HasSameLanguage a b → ⊥
@@ -141,76 +149,72 @@ module _ (faces : List BoxFace) (F G : Forest) (r : ℕ) (tops_F : Every HasOneT
   differ : Joinable faces F G → DifferInChild faces a b
   differ h = one_there HasSameLanguage (DifferInChild faces) F.autos G.autos r a b h.components is_a is_b other
 
-  module _ (children_long : length (top_rule a).children ≡ length (top_rule b).children) where
-    pub below_never : IsApart (SameRuns a b) (top_rule a).children (top_rule b).children (length (top_rule a).children)
-        Nowhere → ⊥
-    below_never k =
+  module _ (ranked_a : IsRanked a) (ranked_b : IsRanked b) where
+    pub children_long : length (top_rule a).children ≡ length (top_rule b).children
+    children_long = tops_long a b ranked_a ranked_b one_a one_b same_symbol
+
+    abbrev IsPlaced : Apart → Type 0
+    IsPlaced found = IsApart (SameRuns a b) (top_rule a).children (top_rule b).children
+        (length (top_rule a).children) found
+
+    module _ (p : ℕ) (at : IsPlaced (At p)) where
+      child : slice_get (top_rule a).children p ≡ Some (child_state a p)
+      child = at_index (top_rule a).children p at.0
+
+      place : p < length (top_rule b).children
+      place = subst (λ (n : ℕ). p < n) children_long at.0
+
+      other_child : slice_get (top_rule b).children p ≡ Some (child_state b p)
+      other_child = at_index (top_rule b).children p place
+
+      can_left : CanSplit F r p
+      can_left = record { root = left; top = one_a; place = at.0 }
+
+      can_right : CanSplit G r p
+      can_right = record { root = right; top = one_b; place = place }
+
+      child_differs : SameRuns a b (child_state a p) (child_state b p) → ⊥
+      child_differs h =
+          let d = at.1 in
+          let e : d.0 ≡ child_state a p = same_Some d.0 (child_state a p) (sym d.2 ∙ child) in
+          let f : d.1 ≡ child_state b p = same_Some d.1 (child_state b p) (sym d.3 ∙ other_child) in
+          d.4
+          (subst (λ (z : ℕ). SameRuns a b z d.1) (sym e)
+          (subst (λ (z : ℕ). SameRuns a b (child_state a p) z) (sym f) h))
+
+      below_cannot : (SameSignatures faces a b (child_state a p) (child_state b p) → ⊥) → Joinable faces F G → ⊥
+      below_cannot n h =
+          n
+          (one_there (SameRuns a b) (SameSignatures faces a b) (top_rule a).children (top_rule b).children p
+          (child_state a p) (child_state b p) (differ h).children child other_child child_differs)
+
+      below_can : SameSignatures faces a b (child_state a p) (child_state b p) → CanJoin faces F G (Child r p)
+      below_can marks =
+          let but : PairedBut (SameRuns a b) p (child_state a p) (child_state b p) (top_rule a).children
+          (top_rule b).children = same_but (SameRuns a b) (top_rule a).children (top_rule b).children p
+          (child_state a p) (child_state b p) children_long child other_child at.2 in (
+            record {
+              vars = alike.vars;
+              data_vars = alike.data_vars;
+              components = but_one HasSameLanguage (DifferInChild faces) r F.autos G.autos a b others (record {
+                symbols = same_symbol;
+                children = but_one (SameRuns a b) (SameSignatures faces a b) p (top_rule a).children
+                    (top_rule b).children (child_state a p) (child_state b p) but marks;
+              });
+            },
+            record {
+              root = left;
+              others = others;
+              below = record { place = at.0; symbols = same_symbol; children = but; marks = marks };
+            },
+          )
+
+    pub below : (found : Apart) → IsPlaced found → IsBelow faces F G r found
+    below Nowhere k =
         other
         (same_below a b one_a one_b same_symbol
         (same_paired (SameRuns a b) (top_rule a).children (top_rule b).children children_long k))
-
-    pub below_more : IsApart (SameRuns a b) (top_rule a).children (top_rule b).children (length (top_rule a).children)
-        More → Joinable faces F G → ⊥
-    below_more k h = never_two (SameRuns a b) (SameSignatures faces a b) (top_rule a).children (top_rule b).children k.0
-        k.1 (differ h).children k.3 k.4 k.2
-
-    module _ (p : ℕ)
-        (at : IsApart (SameRuns a b) (top_rule a).children (top_rule b).children (length (top_rule a).children) (At p))
-      where
-        child : slice_get (top_rule a).children p ≡ Some (child_state a p)
-        child = at_index (top_rule a).children p at.0
-
-        place : p < length (top_rule b).children
-        place = subst (λ (n : ℕ). p < n) children_long at.0
-
-        other_child : slice_get (top_rule b).children p ≡ Some (child_state b p)
-        other_child = at_index (top_rule b).children p place
-
-        pub can_left : CanSplit F r p
-        can_left = record { root = left; top = one_a; place = at.0 }
-
-        pub can_right : CanSplit G r p
-        can_right = record { root = right; top = one_b; place = place }
-
-        child_differs : SameRuns a b (child_state a p) (child_state b p) → ⊥
-        child_differs h =
-            let d = at.1 in
-            let e : d.0 ≡ child_state a p = same_Some d.0 (child_state a p) (sym d.2 ∙ child) in
-            let f : d.1 ≡ child_state b p = same_Some d.1 (child_state b p) (sym d.3 ∙ other_child) in
-            d.4
-            (subst (λ (z : ℕ). SameRuns a b z d.1) (sym e)
-            (subst (λ (z : ℕ). SameRuns a b (child_state a p) z) (sym f) h))
-
-        pub below_cannot : (SameSignatures faces a b (child_state a p) (child_state b p) → ⊥) → Joinable faces F G → ⊥
-        below_cannot n h =
-            n
-            (one_there (SameRuns a b) (SameSignatures faces a b) (top_rule a).children (top_rule b).children p
-            (child_state a p) (child_state b p) (differ h).children child other_child child_differs)
-
-        pub below_can : SameSignatures faces a b (child_state a p) (child_state b p) → CanJoin faces F G (Child r p)
-        below_can marks =
-            let but : PairedBut (SameRuns a b) p (child_state a p) (child_state b p) (top_rule a).children
-            (top_rule b).children = same_but (SameRuns a b) (top_rule a).children (top_rule b).children p
-            (child_state a p) (child_state b p) children_long child other_child at.2 in (
-              record {
-                vars = alike.vars;
-                data_vars = alike.data_vars;
-                components = but_one HasSameLanguage (DifferInChild faces) r F.autos G.autos a b others (record {
-                  symbols = same_symbol;
-                  children = but_one (SameRuns a b) (SameSignatures faces a b) p (top_rule a).children
-                      (top_rule b).children (child_state a p) (child_state b p) but marks;
-                });
-              },
-              record {
-                root = left;
-                others = others;
-                below = record { place = at.0; symbols = same_symbol; children = but; marks = marks };
-              },
-            )
-
--- Rules at the top with one symbol have as many children.
-pub tops_long : (a b : Automaton) → IsRanked a → IsRanked b → HasOneTop a → HasOneTop b → SameTops a b
-    → length (top_rule a).children ≡ length (top_rule b).children
-tops_long a b ranked_a ranked_b one_a one_b e =
-    (every_in (IsRankedRule a.states) a.rules (top_rule a) ranked_a.1 (top_in a one_a)).2 ∙ ap arity e
-    ∙ sym (every_in (IsRankedRule b.states) b.rules (top_rule b) ranked_b.1 (top_in b one_b)).2
+    below (At p) k = (can_left p k, can_right p k, below_can p k, below_cannot p k)
+    below More k = λ h.
+        never_two (SameRuns a b) (SameSignatures faces a b) (top_rule a).children (top_rule b).children k.0 k.1
+        (differ h).children k.3 k.4 k.2

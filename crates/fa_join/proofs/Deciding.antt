@@ -140,20 +140,6 @@ module _ {X Y : Type 0} (R : X → Y → Type 0) where
     never_two (v ∷ xs) (w ∷ ys) (suc i) (suc k) (inl h) d f n =
         never_two xs ys i k h.1 (d.0, d.1, d.2, d.3, d.4) (f.0, f.1, f.2, f.3, f.4) (λ e. n (ap (λ m. suc m) e))
 
-    -- lists that are as long as each other
-    pub one_long : (xs : List X) (ys : List Y) → PairedButOne R S xs ys → length xs ≡ length ys
-    one_long [] [] h = refl
-    one_long [] (y ∷ ys) h = absurd h
-    one_long (x ∷ xs) [] h = absurd h
-    one_long (x ∷ xs) (y ∷ ys) (inl h) = ap (λ n. suc n) (one_long xs ys h.1)
-    one_long (x ∷ xs) (y ∷ ys) (inr h) = ap (λ n. suc n) (long xs ys h.1)
-      where
-        long : (xs : List X) (ys : List Y) → Paired R xs ys → length xs ≡ length ys
-        long [] [] h = refl
-        long [] (y ∷ ys) h = absurd h
-        long (x ∷ xs) [] h = absurd h
-        long (x ∷ xs) (y ∷ ys) h = ap (λ n. suc n) (long xs ys h.1)
-
 -- the other way round
 pub paired_turned : {X Y : Type 0} (R : X → Y → Type 0) (S : Y → X → Type 0) → ((x : X) (y : Y) → R x y → S y x)
     → (xs : List X) (ys : List Y) → Paired R xs ys → Paired S ys xs

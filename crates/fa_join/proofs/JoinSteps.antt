@@ -243,11 +243,6 @@ module _ (face : Face) (given : List SoundForest) where
       ]
       back N s e (inr i) = inr (named (todo ++ next ∷ []) done N s e (inr (without_in done k s i)))
 
-  -- at last none is to do
-  pub joining_last : (done : List SoundForest) → IsJoining face given [] done → (T : List BoxDef)
-      → IsJoined T (forests given) (forests done)
-  joining_last done h T = h.joined T
-
 -- Ready forests.
 
 pub all_ready : (face : Face) (Fs : List SoundForest) → Every (λ s. s.face ≡ face) Fs

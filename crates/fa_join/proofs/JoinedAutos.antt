@@ -136,9 +136,6 @@ module _ (a b : Automaton) (p : ℕ) (ranked_a : IsRanked a) (ranked_b : IsRanke
     (symbols : (top_rule a).symbol ≡ (top_rule b).symbol)
     (children : PairedBut (SameRuns a b) p (child_state a p) (child_state b p) (top_rule a).children
     (top_rule b).children) where
-  abbrev count : ℕ
-  count = a.states + b.states
-
   abbrev pub both : Automaton
   both = united a b
 
@@ -160,9 +157,6 @@ module _ (a b : Automaton) (p : ℕ) (ranked_a : IsRanked a) (ranked_b : IsRanke
   top_right : IsRankedRule a.states (top_rule a)
   top_right = every_in (IsRankedRule a.states) a.rules (top_rule a) ranked_a.1 (top_in a one_a)
 
-  other_right : IsRankedRule b.states (top_rule b)
-  other_right = every_in (IsRankedRule b.states) b.rules (top_rule b) ranked_b.1 (top_in b one_b)
-
   -- the states in the place are states of both
   left_low : (i : ℕ) (ps qs : List ℕ) → PairedBut (SameRuns a b) i (child_state a p) (child_state b p) ps qs
       → Every (λ q. q < a.states) ps → child_state a p < a.states
@@ -171,18 +165,8 @@ module _ (a b : Automaton) (p : ℕ) (ranked_a : IsRanked a) (ranked_b : IsRanke
   left_low zero (x ∷ ps) (y ∷ qs) h l = subst (λ (z : ℕ). z < a.states) h.0 l.0
   left_low (suc i) (x ∷ ps) (y ∷ qs) h l = left_low i ps qs h.1 l.1
 
-  right_low : (i : ℕ) (ps qs : List ℕ) → PairedBut (SameRuns a b) i (child_state a p) (child_state b p) ps qs
-      → Every (λ q. q < b.states) qs → child_state b p < b.states
-  right_low i [] qs h l = absurd h
-  right_low i (x ∷ ps) [] h l = absurd h
-  right_low zero (x ∷ ps) (y ∷ qs) h l = subst (λ (z : ℕ). z < b.states) h.1 l.0
-  right_low (suc i) (x ∷ ps) (y ∷ qs) h l = right_low i ps qs h.1 l.1
-
   pub child_low : child_state a p < a.states
   child_low = left_low p (top_rule a).children (top_rule b).children children top_right.1
-
-  pub other_low : child_state b p < b.states
-  other_low = right_low p (top_rule a).children (top_rule b).children children other_right.1
 
   pub more_above : (o : Rule) → IsIn o more → a.states + b.states ≤ o.state
   more_above o (inl e) = (let s : o.state ≡ a.states + b.states = ap (λ (z : Rule). z.state) e in omega (arith, s))
@@ -195,9 +179,6 @@ module _ (a b : Automaton) (p : ℕ) (ranked_a : IsRanked a) (ranked_b : IsRanke
 
   pub old_left : (q : ℕ) (t : Tree) → q < a.states → RunOf all q t → RunOf a.rules q t
   old_left q t l w = left_run a b ranked_a l (stay both more both_ranked more_above q t (omega (arith, l)) w)
-
-  pub old_right : (q z : ℕ) (t : Tree) → q < b.states → z ≡ q + a.states → RunOf all z t → RunOf b.rules q t
-  old_right q z t l e w = right_run a b ranked_a q e (stay both more both_ranked more_above z t (omega (arith, l, e)) w)
 
   new_left : (q : ℕ) (t : Tree) → RunOf a.rules q t → RunOf all q t
   new_left q t w = widen both more both_ranked more_above q t (to_left a b q t w)

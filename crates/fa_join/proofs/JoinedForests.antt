@@ -31,7 +31,7 @@ use Rattle.fa_split.proofs.TopRules.{top_in}
 use Rattle.fa_join.specs.Joinable.{SameRuns}
 use Rattle.fa_join.specs.Joined.{Joins}
 use Rattle.fa_join.specs.inner.Differing.{DifferAtRoot}
-use Rattle.fa_join.specs.inner.Joining.{joined, joined_at}
+use Rattle.fa_join.specs.inner.Joining.{JoinsBelow, joined, joined_at}
 use Rattle.fa_join.proofs.JoinedAutos.{joined_union, joined_symbols, joined_one}
 use Rattle.fa_join.proofs.GivenAlike.{SameTop, give_alike, same_choice}
 use Rattle.fa_join.proofs.JoinedSigned.{joined_plain, joined_signed, same_tops}
@@ -108,7 +108,7 @@ module _ (a b c : Automaton) (union : IsUnion a b c) where
     | inr l ↦ inr ((h.0 t).0 k.0, l)
   ]
 
-but_long : {X Y : Type 0} (R : X → Y → Type 0) (i : ℕ) (x : X) (y : Y) (xs : List X) (ys : List Y)
+pub but_long : {X Y : Type 0} (R : X → Y → Type 0) (i : ℕ) (x : X) (y : Y) (xs : List X) (ys : List Y)
     → PairedBut R i x y xs ys → i < length ys
 but_long R i x y [] ys h = absurd h
 but_long R i x y (v ∷ xs) [] h = absurd h
@@ -133,31 +133,40 @@ module _ (face : Face) (F G : Forest) (r p : ℕ) (vars : HasVarsOf F G) (ranked
   other : r < length G.autos
   other = but_long HasSameLanguage r a b F.autos G.autos differ.others
 
-  pub split_first : CanSplit F r p
+  ranked_a : IsRanked a
+  ranked_a = component_has IsRanked F.autos r ranked_F differ.root
+
+  ranked_b : IsRanked b
+  ranked_b = component_has IsRanked G.autos r ranked_G other
+
+  one_a : HasOneTop a
+  one_a = component_has HasOneTop F.autos r tops_F differ.root
+
+  one_b : HasOneTop b
+  one_b = component_has HasOneTop G.autos r tops_G other
+
+  split_first : CanSplit F r p
   split_first =
       record {
         root = differ.root;
-        top = component_has HasOneTop F.autos r tops_F differ.root;
+        top = one_a;
         place = differ.below.place;
       }
 
-  pub split_second : CanSplit G r p
+  split_second : CanSplit G r p
   split_second =
       record {
         root = other;
-        top = component_has HasOneTop G.autos r tops_G other;
+        top = one_b;
         place = but_long (SameRuns a b) p (child_state a p) (child_state b p) (top_rule a).children
             (top_rule b).children
             differ.below.children;
       }
 
   union : IsUnion a b (joined a b p)
-  union = joined_union a b p (component_has IsRanked F.autos r ranked_F differ.root)
-      (component_has IsRanked G.autos r ranked_G other)
-      (component_has HasOneTop F.autos r tops_F differ.root) (component_has HasOneTop G.autos r tops_G other)
-      differ.below.symbols differ.below.children
+  union = joined_union a b p ranked_a ranked_b one_a one_b differ.below.symbols differ.below.children
 
-  pub joined_joins : Joins F G J
+  joined_joins : Joins F G J
   joined_joins = record {
     first = (refl, refl);
     second = (sym vars.0, sym vars.1);
@@ -173,26 +182,18 @@ module _ (face : Face) (F G : Forest) (r p : ℕ) (vars : HasVarsOf F G) (ranked
   from : (ts : List Tree) → Choice J.autos ts → Choice F.autos ts ⊎ Choice G.autos ts
   from ts k = choice_from a b (joined a b p) union r F.autos G.autos differ.others ts k
 
-  pub joined_no_boxes : Every HasNoBoxes F.autos → Every HasNoBoxes G.autos → Every HasNoBoxes J.autos
+  joined_no_boxes : Every HasNoBoxes F.autos → Every HasNoBoxes G.autos → Every HasNoBoxes J.autos
   joined_no_boxes plain_F plain_G = every_put HasNoBoxes F.autos r (joined a b p) plain_F
-      (joined_plain a b p (component_has IsRanked F.autos r ranked_F differ.root)
-      (component_has IsRanked G.autos r ranked_G other)
-      (component_has HasOneTop F.autos r tops_F differ.root) (component_has HasOneTop G.autos r tops_G other)
-      differ.below.symbols differ.below.children differ.below.place
+      (joined_plain a b p ranked_a ranked_b one_a one_b differ.below.symbols differ.below.children differ.below.place
       (component_has HasNoBoxes F.autos r plain_F differ.root) (component_has HasNoBoxes G.autos r plain_G other))
 
   joined_tops : Every HasOneTop J.autos
   joined_tops = every_put HasOneTop F.autos r (joined a b p) tops_F
-      (joined_one a b p (component_has IsRanked F.autos r ranked_F differ.root)
-      (component_has IsRanked G.autos r ranked_G other)
-      (component_has HasOneTop F.autos r tops_F differ.root) (component_has HasOneTop G.autos r tops_G other)
-      differ.below.symbols differ.below.children)
+      (joined_one a b p ranked_a ranked_b one_a one_b differ.below.symbols differ.below.children)
 
   tops_alike : (t u : Tree) → InLanguage a t → InLanguage b u → SameTop t u
-  tops_alike = same_tops a b p (component_has IsRanked F.autos r ranked_F differ.root)
-      (component_has IsRanked G.autos r ranked_G other)
-      (component_has HasOneTop F.autos r tops_F differ.root) (component_has HasOneTop G.autos r tops_G other)
-      differ.below.symbols differ.below.children differ.below.place
+  tops_alike =
+      same_tops a b p ranked_a ranked_b one_a one_b differ.below.symbols differ.below.children differ.below.place
 
   filled_by : (E : Forest) → F.vars ≡ E.vars → (ts : List Tree) → ChoiceFilled face E ts → ChoiceFilled face J ts
   filled_by E e ts f = record {
@@ -205,19 +206,15 @@ module _ (face : Face) (F G : Forest) (r p : ℕ) (vars : HasVarsOf F G) (ranked
   -- the rule at the top gives where it leads back
   top_gives : Every IsGiving face.boxes → SymbolGives face.boxes (top_rule a).symbol
   top_gives giving = every_in (λ (o : Rule). SymbolGives face.boxes o.symbol) a.rules (top_rule a)
-      (faces_give face.boxes giving (a ∷ [])).0
-      (top_in a (component_has HasOneTop F.autos r tops_F differ.root))
+      (faces_give face.boxes giving (a ∷ [])).0 (top_in a one_a)
 
-  pub joined_sound : Every IsGiving face.boxes → IsSound face F → IsSound face G → IsSound face J
+  joined_sound : Every IsGiving face.boxes → IsSound face F → IsSound face G → IsSound face J
   joined_sound giving f g = record {
     well_formed = record {
       filled = record {
         data_vars = f.well_formed.filled.data_vars;
         rules = every_put (RulesFit face) F.autos r (joined a b p) f.well_formed.filled.rules
-            (joined_symbols a b p (component_has IsRanked F.autos r ranked_F differ.root)
-            (component_has IsRanked G.autos r ranked_G other)
-            (component_has HasOneTop F.autos r tops_F differ.root) (component_has HasOneTop G.autos r tops_G other)
-            differ.below.symbols differ.below.children
+            (joined_symbols a b p ranked_a ranked_b one_a one_b differ.below.symbols differ.below.children
             (SymbolFits face) (component_has (RulesFit face) F.autos r f.well_formed.filled.rules differ.root)
             (component_has (RulesFit face) G.autos r g.well_formed.filled.rules other));
         trees = λ ts k. elim (from ts k) [
@@ -226,11 +223,8 @@ module _ (face : Face) (F G : Forest) (r p : ℕ) (vars : HasVarsOf F G) (ranked
         ];
       };
       signatures = every_put (HasSignatures face.boxes) F.autos r (joined a b p) f.well_formed.signatures
-          (joined_signed a b p (component_has IsRanked F.autos r ranked_F differ.root)
-          (component_has IsRanked G.autos r ranked_G other)
-          (component_has HasOneTop F.autos r tops_F differ.root) (component_has HasOneTop G.autos r tops_G other)
-          differ.below.symbols differ.below.children differ.below.place face.boxes (top_gives giving)
-          differ.below.marks
+          (joined_signed a b p ranked_a ranked_b one_a one_b differ.below.symbols differ.below.children
+          differ.below.place face.boxes (top_gives giving) differ.below.marks
           (component_has (HasSignatures face.boxes) F.autos r f.well_formed.signatures differ.root)
           (component_has (HasSignatures face.boxes) G.autos r g.well_formed.signatures other)
           (λ t u l m. give_alike face F G r a b (component_got F.autos r differ.root) differ.others f
@@ -240,7 +234,7 @@ module _ (face : Face) (F G : Forest) (r p : ℕ) (vars : HasVarsOf F G) (ranked
         (let t = component_has HasSome F.autos r f.full differ.root in (t.0, (union t.0).1 (inl t.1)));
   }
 
-  pub joined_canonical : Every IsGiving face.boxes → IsSound face F → IsSound face G → IsCanonical face F
+  joined_canonical : Every IsGiving face.boxes → IsSound face F → IsSound face G → IsCanonical face F
       → IsCanonical face G → IsCanonical face J
   joined_canonical giving f g can other_can = record {
     well_formed = (joined_sound giving f g).well_formed;
@@ -259,6 +253,18 @@ module _ (face : Face) (F G : Forest) (r p : ℕ) (vars : HasVarsOf F G) (ranked
       | inr l ↦ subst (λ (vs : List Target). Walks (refs_at ts) (GoesOn face.boxes ts) (var_roots vs) 0 (length ts))
           vars.0 (other_can.order ts l)
     ];
+  }
+
+  -- all of it
+  pub joined_below : Every IsGiving face.boxes → IsSound face F → IsSound face G → IsCanonical face F
+      → IsCanonical face G → JoinsBelow face F G r p
+  joined_below giving f g can other_can = record {
+    first = split_first;
+    second = split_second;
+    sound = joined_sound giving f g;
+    canonical = joined_canonical giving f g can other_can;
+    joins = joined_joins;
+    plain = joined_no_boxes;
   }
 
 -- Forests with the same languages: the first has the dressed forests of both.

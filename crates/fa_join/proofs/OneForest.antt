@@ -18,7 +18,7 @@ use Rattle.fa_join.specs.inner.Differing.{DifferAtRoot}
 use Rattle.fa_join.specs.inner.Joining.{joined_at}
 use Rattle.fa_join.proofs.Deciding.{one_cases}
 use Rattle.fa_join.proofs.DecidedForests.{same_below}
-use Rattle.fa_join.proofs.JoinedForests.{joined_joins, joined_sound, joined_canonical, same_joins}
+use Rattle.fa_join.proofs.JoinedForests.{but_long, joined_below, same_joins}
 
 -- the items that differ stand at the place
 but_states : (R S : ℕ → ℕ → Type 0) (i : ℕ) (ps qs : List ℕ) (p q : ℕ) → PairedBut R i p q ps qs → S p q
@@ -70,13 +70,10 @@ module _ (face : Face) (F G : Forest) (ranked_F : Every IsRanked F.autos) (ranke
   same k = (F, f, can_F, same_joins F G (sym h.vars, sym h.data_vars) k)
 
   by_child : (r p : ℕ) → DifferAtRoot face.boxes F G r p → Found
-  by_child r p d = (
-    joined_at F G r p,
-    joined_sound face F G r p (sym h.vars, sym h.data_vars) ranked_F ranked_G can_F.tops can_G.tops d giving f g,
-    joined_canonical face F G r p (sym h.vars, sym h.data_vars) ranked_F ranked_G can_F.tops can_G.tops d giving f g
-        can_F can_G,
-    joined_joins face F G r p (sym h.vars, sym h.data_vars) ranked_F ranked_G can_F.tops can_G.tops d,
-  )
+  by_child r p d =
+      let j = joined_below face F G r p (sym h.vars, sym h.data_vars) ranked_F ranked_G can_F.tops can_G.tops d giving
+      f g can_F can_G in
+      (joined_at F G r p, j.sound, j.canonical, j.joins)
 
   at_root : (r : ℕ) → r < length F.autos → r < length G.autos
       → PairedBut HasSameLanguage r (component_at F.autos r) (component_at G.autos r) F.autos G.autos
@@ -102,16 +99,9 @@ module _ (face : Face) (F G : Forest) (ranked_F : Every IsRanked F.autos) (ranke
             }))
       ]
 
-  as_long : (R : Automaton → Automaton → Type 0) (r : ℕ) (a b : Automaton) (xs ys : List Automaton)
-      → PairedBut R r a b xs ys → r < length ys
-  as_long R r a b [] ys k = absurd k
-  as_long R r a b (x ∷ xs) [] k = absurd k
-  as_long R zero a b (x ∷ xs) (y ∷ ys) k = omega arith
-  as_long R (suc r) a b (x ∷ xs) (y ∷ ys) k = (let l = as_long R r a b xs ys k.1 in omega (arith, l))
-
   pub one_forest : (J : Forest) × IsSound face J × IsCanonical face J × Joins F G J
   one_forest = elim (one_cases HasSameLanguage (DifferInChild face.boxes) F.autos G.autos h.components) [
     | inl k ↦ same k
     | inr k ↦ (let c = but_autos HasSameLanguage (DifferInChild face.boxes) k.0 F.autos G.autos k.1 k.2 k.3 k.4 in
-        at_root k.0 c.2 (as_long HasSameLanguage k.0 k.1 k.2 F.autos G.autos k.3) c.0 c.1)
+        at_root k.0 c.2 (but_long HasSameLanguage k.0 k.1 k.2 F.autos G.autos k.3) c.0 c.1)
   ]

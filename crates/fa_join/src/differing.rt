@@ -1,20 +1,17 @@
 // Where two forests differ that can be joined.
 
-ghost use Rattle.std.specs.Prelude.{◌≡◌, ◌<◌, ◌↔◌, length, IsTrue, IfOk, MatchOption};
+ghost use Rattle.std.specs.Prelude.{◌≡◌, ◌↔◌, length, IsTrue, IfOk, MatchOption};
 ghost use Rattle.fore_base.specs.Lists.{Every};
 ghost use Rattle.ta_core.specs.Language.{HasSameLanguage};
 ghost use Rattle.ta_core.specs.Single.{HasOneTop};
-ghost use Rattle.fa_sound.specs.Components.{component_at};
-ghost use Rattle.fa_split.specs.Split.{top_rule};
-ghost use Rattle.fa_join.specs.Joinable.{Joinable, SameRuns};
+ghost use Rattle.fa_join.specs.Joinable.{Joinable};
 ghost use Rattle.fa_join.specs.declared.comparing.Apart.TheVariants.{At};
 ghost use Rattle.fa_join.specs.inner.Apart.{IsApart};
-ghost use Rattle.fa_join.specs.inner.Differing.{CanJoin, LookAlike, SameTops};
+ghost use Rattle.fa_join.specs.inner.Differing.{CanJoin, IsBelow, LookAlike};
 
 use crate::comparing::{Apart, autos_apart, states_apart};
 use crate::looks::look_alike;
 use crate::marks::have_same_marks;
-use fa_core::forest::Forest;
 use fa_sound::{Sound, component};
 use fa_split::children_of;
 use fore_base::memory::Mem;
@@ -79,7 +76,7 @@ fn differing_below(alloc: Global, left: &Sound, right: &Sound, root: u32) -> Mem
         (λ found. MatchOption found (Joinable left.now.face.boxes left.now.forest right.now.forest → ⊥)
         (CanJoin left.now.face.boxes left.now.forest right.now.forest)) }
 {
-    match children_apart(alloc, left.forest(), right.forest(), root)? {
+    match children_apart(alloc, left, right, root)? {
         Apart::Nowhere => unreachable!(),
         Apart::At(child) => {
             if have_same_marks(left, right, root, child) {
@@ -93,25 +90,26 @@ fn differing_below(alloc: Global, left: &Sound, right: &Sound, root: u32) -> Mem
 }
 
 /// The places at which the children below the root's one rule have other trees.
-fn children_apart(alloc: Global, left: &Forest, right: &Forest, root: u32) -> Mem<Apart>
-    requires left { root < length left.now.autos }
-    requires right { root < length right.now.autos }
-    requires left_tops { Every HasOneTop left.now.autos }
-    requires right_tops { Every HasOneTop right.now.autos }
-    requires symbols { SameTops (component_at left.now.autos root) (component_at right.now.autos root) }
-    ensures apart { IfOk result
-        (IsApart (SameRuns (component_at left.now.autos root) (component_at right.now.autos root))
-        (top_rule (component_at left.now.autos root)).children
-        (top_rule (component_at right.now.autos root)).children
-        (length (top_rule (component_at left.now.autos root)).children)) }
-    ensures long { length (top_rule (component_at left.now.autos root)).children
-        ≡ length (top_rule (component_at right.now.autos root)).children }
+fn children_apart(alloc: Global, left: &Sound, right: &Sound, root: u32) -> Mem<Apart>
+    requires left { Every HasOneTop left.now.forest.autos }
+    requires right { Every HasOneTop right.now.forest.autos }
+    requires alike { LookAlike left.now.forest right.now.forest }
+    requires apart { IsApart HasSameLanguage left.now.forest.autos right.now.forest.autos
+        (length left.now.forest.autos) (At root) }
+    ensures { IfOk result (IsBelow left.now.face.boxes left.now.forest right.now.forest root) }
 {
-    let left = component(left, root);
-    let right = component(right, root);
-    left.known();
-    right.known();
-    states_apart(alloc, left, right, children_of(left), children_of(right))
+    let first = component(left.forest(), root);
+    let second = component(right.forest(), root);
+    first.known();
+    second.known();
+    let apart = states_apart(
+        alloc,
+        first,
+        second,
+        children_of(first),
+        children_of(second),
+    )?;
+    Ok(apart)
 }
 
 /// The root of the component at the place. Where the number does not fit 32 bits the answer is want of memory.

@@ -11,7 +11,7 @@ ghost use Rattle.fa_split.specs.Divided.{HasVarsOf};
 ghost use Rattle.fa_split.specs.Split.{CanSplit};
 ghost use Rattle.fa_join.specs.Joined.{Joins};
 ghost use Rattle.fa_join.specs.inner.Differing.{CanJoin, DifferAtRoot};
-ghost use Rattle.fa_join.specs.inner.Joining.{HasNoEdges, IsReady, joined};
+ghost use Rattle.fa_join.specs.inner.Joining.{HasNoEdges, IsReady, JoinsBelow, joined};
 
 use crate::autos::join_autos;
 use crate::differing::Difference;
@@ -67,8 +67,20 @@ fn join_below(alloc: Global, left: &Sound, right: &Sound, root: u32, child: usiz
 {
     left.known();
     right.known();
+    joined_forest(alloc, left, right, root, child)
+}
+
+/// So where it is known what it is.
+fn joined_forest(alloc: Global, left: &Sound, right: &Sound, root: u32, child: usize) -> Mem<Sound>
+    requires { JoinsBelow left.now.face left.now.forest right.now.forest root child }
+    ensures plain { HasNoEdges left.now → HasNoEdges right.now → IfOk result HasNoEdges }
+    ensures face { IfOk result (λ made. made.face ≡ left.now.face) }
+    ensures canonical { IfOk result (λ made. IsCanonical left.now.face made.forest) }
+    ensures joins { IfOk result (λ made. Joins left.now.forest right.now.forest made.forest) }
+{
     let auto = joined_auto(alloc, left.forest(), right.forest(), root, child)?;
-    left.with_component(alloc, root, auto)
+    let made = left.with_component(alloc, root, auto)?;
+    Ok(made)
 }
 
 /// The component that joins those of both forests at the root.

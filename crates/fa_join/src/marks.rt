@@ -1,9 +1,8 @@
 // The signatures of the children below the roots of two forests.
 
 ghost use Rattle.std.specs.Prelude.{◌≡◌, ◌↔◌, IsTrue};
-ghost use Rattle.fa_sound.specs.Components.{component_at};
-ghost use Rattle.fa_split.specs.Split.{CanSplit, child_state};
-ghost use Rattle.fa_join.specs.Joinable.{SameSignatures};
+ghost use Rattle.fa_split.specs.Split.{CanSplit};
+ghost use Rattle.fa_join.specs.inner.Differing.{AreMarkedAlike};
 
 use fa_sound::{Sound, are_same};
 use fa_split::child_marks;
@@ -13,9 +12,7 @@ pub fn have_same_marks(left: &Sound, right: &Sound, root: u32, child: usize) -> 
     requires face { left.now.face ≡ right.now.face }
     requires left { CanSplit left.now.forest root child }
     requires right { CanSplit right.now.forest root child }
-    ensures { IsTrue result ↔ SameSignatures left.now.face.boxes (component_at left.now.forest.autos root)
-        (component_at right.now.forest.autos root) (child_state (component_at left.now.forest.autos root) child)
-        (child_state (component_at right.now.forest.autos root) child) }
+    ensures { IsTrue result ↔ AreMarkedAlike left.now.face.boxes left.now.forest right.now.forest root child }
 {
     let first = child_marks(left, root, child);
     let second = child_marks(right, root, child);

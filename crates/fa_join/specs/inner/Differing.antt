@@ -7,8 +7,10 @@ use Rattle.fa_core.specs.declared.faces.BoxFace.{BoxFace}
 use Rattle.fa_core.specs.declared.forest.Forest.{Forest}
 use Rattle.fa_sound.specs.Soundness.{SoundForest}
 use Rattle.fa_sound.specs.Components.{component_at}
-use Rattle.fa_split.specs.Split.{top_rule, child_state}
+use Rattle.fa_split.specs.Split.{CanSplit, top_rule, child_state}
 use Rattle.fa_join.specs.Joinable.{SameRuns, SameSignatures, Joinable}
+use Rattle.fa_join.specs.declared.comparing.Apart.{Apart}
+use Rattle.fa_join.specs.declared.comparing.Apart.TheVariants.{At, More, Nowhere as NoPlace}
 use Rattle.fa_join.specs.declared.differing.Difference.{Difference}
 use Rattle.fa_join.specs.declared.differing.Difference.TheVariants.{Nowhere, Child}
 use Rattle.fa_join.specs.declared.lists.Partner.{Partner}
@@ -45,6 +47,20 @@ IsDifference bs F G (Child r p) = DifferAtRoot bs F G r p
 -- the forests can be joined, and this is where they differ
 abbrev pub CanJoin : List BoxFace → Forest → Forest → Difference → Type 0
 CanJoin bs F G d = Joinable bs F G × IsDifference bs F G d
+
+-- the trees of the children at place p below root r have one signature in both forests
+abbrev pub AreMarkedAlike : List BoxFace → Forest → Forest → ℕ → ℕ → Type 0
+AreMarkedAlike bs F G r p = SameSignatures bs (component_at F.autos r) (component_at G.autos r)
+    (child_state (component_at F.autos r) p) (child_state (component_at G.autos r) p)
+
+-- what the places tell at which the children below root r have other trees, the only root where the forests differ:
+-- there are some; at one, the forests can be joined exactly where the signatures are equal; at more, they cannot
+abbrev pub IsBelow : List BoxFace → Forest → Forest → ℕ → Apart → Type 0
+IsBelow bs F G r NoPlace = ⊥
+IsBelow bs F G r (At p) =
+    CanSplit F r p × CanSplit G r p × (AreMarkedAlike bs F G r p → CanJoin bs F G (Child r p))
+    × ((AreMarkedAlike bs F G r p → ⊥) → Joinable bs F G → ⊥)
+IsBelow bs F G r More = Joinable bs F G → ⊥
 
 -- the forest at this place of the list can be joined with G
 abbrev pub IsPartner : List BoxFace → List SoundForest → Forest → Partner → Type 0

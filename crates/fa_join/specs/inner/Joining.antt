@@ -7,6 +7,7 @@ use Rattle.ta_core.specs.declared.auto.Rule.{Rule}
 use Rattle.fa_core.specs.Boxless.{HasNoBoxes}
 use Rattle.fa_core.specs.Canonical.{IsCanonical}
 use Rattle.fa_core.specs.Covering.{Reduced}
+use Rattle.fa_core.specs.Filled.{IsSound}
 use Rattle.fa_core.specs.declared.boxes.BoxDef.{BoxDef}
 use Rattle.fa_core.specs.declared.faces.BoxFace.{BoxFace}
 use Rattle.fa_core.specs.declared.faces.Face.{Face}
@@ -14,9 +15,9 @@ use Rattle.fa_core.specs.declared.forest.Forest.{Forest}
 use Rattle.fa_sound.specs.Soundness.{SoundForest}
 use Rattle.fa_sound.specs.Components.{component_at, with_component}
 use Rattle.fa_sound.specs.Unions.{forests}
-use Rattle.fa_split.specs.Split.{top_rule, child_state}
+use Rattle.fa_split.specs.Split.{CanSplit, top_rule, child_state}
 use Rattle.fa_join.specs.Joinable.{Joinable}
-use Rattle.fa_join.specs.Joined.{IsJoined}
+use Rattle.fa_join.specs.Joined.{IsJoined, Joins}
 
 -- the rules of states p and q, at state z
 abbrev pub of_both : ℕ → ℕ → ℕ → List Rule → List Rule
@@ -46,6 +47,15 @@ joined a b p = record {
 -- F, with the automaton that joins the components of F and G at root r
 abbrev pub joined_at : Forest → Forest → ℕ → ℕ → Forest
 joined_at F G r p = with_component F r (joined (component_at F.autos r) (component_at G.autos r) p)
+
+-- the forests can be split at this child of this root, and the forest that joins them there is sound and canonical
+pub record JoinsBelow (face : Face) (F G : Forest) (r p : ℕ) : Type 0 where
+  pub first : CanSplit F r p
+  pub second : CanSplit G r p
+  pub sound : IsSound face (joined_at F G r p)
+  pub canonical : IsCanonical face (joined_at F G r p)
+  pub joins : Joins F G (joined_at F G r p)
+  pub plain : Every HasNoBoxes F.autos → Every HasNoBoxes G.autos → Every HasNoBoxes (joined_at F G r p).autos
 
 -- the forest stands over the face, is canonical and reduced
 pub record IsReady (face : Face) (F : SoundForest) : Type 0 where

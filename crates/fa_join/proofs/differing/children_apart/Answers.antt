@@ -1,75 +1,85 @@
 use Rattle.ta_core.specs.Auto.{IsRanked}
-use Rattle.ta_core.specs.Single.{HasOneTop}
 use Rattle.fa_sound.specs.Components.{component_at}
-use Rattle.fa_merge.proofs.PlacedForests.{component_has}
 use Rattle.fa_split.proofs.ChildStates.{children_within}
-use Rattle.fa_join.proofs.DecidedForests.{tops_long}
+use Rattle.fa_join.proofs.DecidedForests.{below, children_long, one_a, one_b, right}
 use Rattle.fa_join.proofs.differing.children_apart.Goals as goal
+
+pub component-first-requires : goal.component-first-requires
+component-first-requires c = rw c.forest.ensures c.requires.apart.0
+
+pub component-second-requires : goal.component-second-requires
+component-second-requires c =
+    rw c.forest-2.ensures
+    (right c.args.left.now.face.boxes c.args.left.now.forest c.args.right.now.forest c.args.root c.requires.left
+    c.requires.right c.requires.alike c.requires.apart)
 
 pub children_of-requires : goal.children_of-requires
 children_of-requires c =
-    rw c.component-left.ensures
-    (component_has HasOneTop c.args.left.now.autos c.args.root c.requires.left_tops c.requires.left)
+    rw (c.component-first.ensures, c.forest.ensures)
+    (one_a c.args.left.now.face.boxes c.args.left.now.forest c.args.right.now.forest c.args.root c.requires.left
+    c.requires.right c.requires.alike c.requires.apart)
 
 pub children_of-requires-2 : goal.children_of-requires-2
 children_of-requires-2 c =
-    rw c.component-right.ensures
-    (component_has HasOneTop c.args.right.now.autos c.args.root c.requires.right_tops c.requires.right)
+    rw (c.component-second.ensures, c.forest-2.ensures)
+    (one_b c.args.left.now.face.boxes c.args.left.now.forest c.args.right.now.forest c.args.root c.requires.left
+    c.requires.right c.requires.alike c.requires.apart)
 
 pub states_apart-requires-clause-long : goal.states_apart-requires-clause-long
 states_apart-requires-clause-long c =
-    let L = c.args.left.now.autos in
-    let R = c.args.right.now.autos in
+    let F = c.args.left.now.forest in
+    let G = c.args.right.now.forest in
     let r = c.args.root in
-    let a = component_at L r in
-    let b = component_at R r in
-    let one_a = component_has HasOneTop L r c.requires.left_tops c.requires.left in
-    let one_b = component_has HasOneTop R r c.requires.right_tops c.requires.right in
-    let ranked_a : IsRanked a = rw c.component-left.ensures at c.known.ensures in
-    let ranked_b : IsRanked b = rw c.component-right.ensures at c.known-2.ensures in
-    rw (c.children_of.ensures, c.children_of-2.ensures, c.component-left.ensures, c.component-right.ensures)
-    (tops_long a b ranked_a ranked_b one_a one_b c.requires.symbols)
+    let q = c.requires in
+    let ranked_a : IsRanked (component_at F.autos r) =
+    rw (c.component-first.ensures, c.forest.ensures) at c.known.ensures in
+    let ranked_b : IsRanked (component_at G.autos r) =
+    rw (c.component-second.ensures, c.forest-2.ensures) at c.known-2.ensures in
+    rw (
+      c.children_of.ensures,
+      c.children_of-2.ensures,
+      c.component-first.ensures,
+      c.component-second.ensures,
+      c.forest.ensures,
+      c.forest-2.ensures,
+    ) (children_long c.args.left.now.face.boxes F G r q.left q.right q.alike q.apart ranked_a ranked_b)
 
 pub states_apart-requires-clause-left : goal.states_apart-requires-clause-left
 states_apart-requires-clause-left c =
-    let L = c.args.left.now.autos in
-    let R = c.args.right.now.autos in
-    let r = c.args.root in
-    let a = component_at L r in
-    let b = component_at R r in
-    let one_a = component_has HasOneTop L r c.requires.left_tops c.requires.left in
-    let one_b = component_has HasOneTop R r c.requires.right_tops c.requires.right in
-    let ranked_a : IsRanked a = rw c.component-left.ensures at c.known.ensures in
-    let ranked_b : IsRanked b = rw c.component-right.ensures at c.known-2.ensures in
-    rw (c.children_of.ensures, c.component-left.ensures) (children_within a ranked_a one_a)
+    let F = c.args.left.now.forest in
+    let one = one_a c.args.left.now.face.boxes F c.args.right.now.forest c.args.root c.requires.left c.requires.right
+    c.requires.alike c.requires.apart in
+    let ranked : IsRanked (component_at F.autos c.args.root) =
+    rw (c.component-first.ensures, c.forest.ensures) at c.known.ensures in
+    rw (c.children_of.ensures, c.component-first.ensures, c.forest.ensures)
+    (children_within (component_at F.autos c.args.root) ranked one)
 
 pub states_apart-requires-clause-right : goal.states_apart-requires-clause-right
 states_apart-requires-clause-right c =
-    let L = c.args.left.now.autos in
-    let R = c.args.right.now.autos in
-    let r = c.args.root in
-    let a = component_at L r in
-    let b = component_at R r in
-    let one_a = component_has HasOneTop L r c.requires.left_tops c.requires.left in
-    let one_b = component_has HasOneTop R r c.requires.right_tops c.requires.right in
-    let ranked_a : IsRanked a = rw c.component-left.ensures at c.known.ensures in
-    let ranked_b : IsRanked b = rw c.component-right.ensures at c.known-2.ensures in
-    rw (c.children_of-2.ensures, c.component-right.ensures) (children_within b ranked_b one_b)
+    let G = c.args.right.now.forest in
+    let one = one_b c.args.left.now.face.boxes c.args.left.now.forest G c.args.root c.requires.left c.requires.right
+    c.requires.alike c.requires.apart in
+    let ranked : IsRanked (component_at G.autos c.args.root) =
+    rw (c.component-second.ensures, c.forest-2.ensures) at c.known-2.ensures in
+    rw (c.children_of-2.ensures, c.component-second.ensures, c.forest-2.ensures)
+    (children_within (component_at G.autos c.args.root) ranked one)
 
-pub returns-clause-apart : goal.returns-clause-apart
-returns-clause-apart c =
-    rw (c.children_of.ensures, c.children_of-2.ensures, c.component-left.ensures, c.component-right.ensures) at
-    c.states_apart.ensures
-
-pub returns-clause-long : goal.returns-clause-long
-returns-clause-long c =
-    let L = c.args.left.now.autos in
-    let R = c.args.right.now.autos in
+pub returns : goal.returns
+returns c =
+    let F = c.args.left.now.forest in
+    let G = c.args.right.now.forest in
     let r = c.args.root in
-    let a = component_at L r in
-    let b = component_at R r in
-    let one_a = component_has HasOneTop L r c.requires.left_tops c.requires.left in
-    let one_b = component_has HasOneTop R r c.requires.right_tops c.requires.right in
-    let ranked_a : IsRanked a = rw c.component-left.ensures at c.known.ensures in
-    let ranked_b : IsRanked b = rw c.component-right.ensures at c.known-2.ensures in
-    tops_long a b ranked_a ranked_b one_a one_b c.requires.symbols
+    let q = c.requires in
+    let ranked_a : IsRanked (component_at F.autos r) =
+    rw (c.component-first.ensures, c.forest.ensures) at c.known.ensures in
+    let ranked_b : IsRanked (component_at G.autos r) =
+    rw (c.component-second.ensures, c.forest-2.ensures) at c.known-2.ensures in
+    below c.args.left.now.face.boxes F G r q.left q.right q.alike q.apart ranked_a ranked_b c.in_ok-apart.apart
+    (rw (
+      c.children_of.ensures,
+      c.children_of-2.ensures,
+      c.component-first.ensures,
+      c.component-second.ensures,
+      c.forest.ensures,
+      c.forest-2.ensures,
+    ) at c.in_ok-apart.ensures)

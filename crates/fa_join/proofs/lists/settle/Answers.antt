@@ -13,9 +13,7 @@ use Rattle.fa_join.proofs.lists.settle.Goals as goal
 pub join-requires-clause-left : goal.join-requires-clause-left
 join-requires-clause-left g c κs within =
     let face = c.args.face.now in
-    let todo = c.args.todo.now in
     let done = c.args.done.now in
-    let next = c.args.next in
     let other = c.remove-other.result in
     let ready = every_in (IsReady face) done other c.requires.done
     (in_from_place done c.in-Some.found.place other c.remove-other.ensures.item) in
@@ -24,7 +22,6 @@ join-requires-clause-left g c κs within =
 pub join-requires-clause-right : goal.join-requires-clause-right
 join-requires-clause-right g c κs within =
     let face = c.args.face.now in
-    let todo = c.args.todo.now in
     let done = c.args.done.now in
     let next = c.args.next in
     let other = c.remove-other.result in
@@ -35,7 +32,6 @@ join-requires-clause-right g c κs within =
 pub join-requires-clause-can : goal.join-requires-clause-can
 join-requires-clause-can g c κs within =
     let face = c.args.face.now in
-    let todo = c.args.todo.now in
     let done = c.args.done.now in
     let next = c.args.next in
     let other = c.remove-other.result in
@@ -87,10 +83,8 @@ returns-in_ok-made-in-Some-clause-joining g c =
 
 pub returns-in_ok-made-in-Some-clause-fewer : goal.returns-in_ok-made-in-Some-clause-fewer
 returns-in_ok-made-in-Some-clause-fewer g c =
-    let face = c.args.face.now in
     let todo = c.args.todo.now in
     let done = c.args.done.now in
-    let next = c.args.next in
     let made = c.in_ok-made-in-Some.made in
     let rest = ap (λ (z : List SoundForest). length z) c.remove-other.ensures.rest in
     let less = without_long done c.in-Some.found.place c.remove-other.result c.remove-other.ensures.item in
