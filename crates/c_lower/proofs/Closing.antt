@@ -3,19 +3,19 @@ use Rattle.std.specs.Prelude.{get_or, drop, pred}
 use Rattle.std.proofs.Common.{◌≡◌, ℕ, zero, suc, ◌+◌, ◌<◌, ◌≤◌, List, [], ◌∷◌, length, refl, sym, ap, ◌∙◌, arith}
 use Rattle.std.proofs.Common.{Option, Some, None, slice_get}
 use Rattle.c_types.specs.declared.program.Act.{Act}
-use Rattle.c_types.specs.declared.program.Act.TheVariants.{SetPtr, SetData, Free, Error, Halt, Return, Break, Continue}
-use Rattle.c_types.specs.declared.program.Act.TheVariants.{Leave as LeaveAct}
 use Rattle.c_types.specs.declared.program.Cond.{Cond}
 use Rattle.c_types.specs.declared.program.Stmt.{Stmt}
 use Rattle.c_types.specs.declared.program.Arg.{Arg}
 use Rattle.c_types.specs.declared.program.Dest.{Dest}
 use Rattle.c_types.specs.declared.program.Stmt.TheVariants.{Do as DoStmt, Branch, While, DoWhile, For, Group, Call}
 use Rattle.c_types.specs.declared.program.Func.{Func}
-use Rattle.c_types.specs.Control.{Items, Done, Exit, closes, leave_items, act_items, body_within, insert, merged}
+use Rattle.c_types.specs.Control.{Items, Done, Exit, closes, act_items, body_within, insert, merged}
+use Rattle.c_types.proofs.Composing.{act_composed}
 use Rattle.c_types.proofs.Layers.{by-Do, by-Branch, by-While, by-DoWhile, by-For, by-Group}
+use Rattle.c_types.proofs.Standing.{all_stand}
 use Rattle.c_lower.specs.declared.around.Around.{Around}
 use Rattle.c_lower.specs.inner.Emitting.{inside, closed, reached, items_one, items_in, inside_stmt, inside_all}
-use Rattle.c_lower.proofs.Standing.{all_stand, items-more, call_is, call_none}
+use Rattle.c_lower.proofs.Standing.{items-more, call_is, call_none}
 use Rattle.c_lower.proofs.Joined.{inside_both}
 use Rattle.std.proofs.lemmas.List.{drop_all}
 
@@ -24,22 +24,13 @@ closes_closed w [] [] m = refl
 closes_closed w [] (d ∷ ds) m = refl
 closes_closed w (p ∷ ps) ds m = refl
 
-leave_closes : (w : Around) (g : Option Func) (f : ℕ) (value : Option Arg) (m : ℕ)
-    → inside w (leave_items g f value m Done) ≡ w
-leave_closes w None f value m = refl
-leave_closes w (Some g) f value m = refl
+-- an act closes no block
+abbrev ClosesNone : (Items → Items) → Type 0
+ClosesNone f = (w : Around) → inside w (f Done) ≡ w
 
 module _ (funcs : List Func) where
-  act_closes : (w : Around) (a : Act) (m : ℕ) → inside w (act_items funcs a m Done) ≡ w
-  act_closes w (SetPtr to from) m = refl
-  act_closes w (SetData to from) m = refl
-  act_closes w (Free p) m = refl
-  act_closes w Error m = refl
-  act_closes w Halt m = refl
-  act_closes w (Return operand) m = refl
-  act_closes w (LeaveAct f value) m = leave_closes w (slice_get funcs f) f value m
-  act_closes w Break m = refl
-  act_closes w Continue m = refl
+  act_closes : (a : Act) (m : ℕ) → ClosesNone (act_items funcs a m)
+  act_closes = act_composed ClosesNone (λ a m w. refl) (λ g value m w. refl) funcs
 
   module _ (deep : ℕ) where
     abbrev under : List Stmt → Items → Items
@@ -65,7 +56,7 @@ module _ (funcs : List Func) where
 
     pub inside-Do : (w : Around) (a : Act) (line : ℕ) → inside_stmt funcs deep w (DoStmt a line) ≡ w
     unfolding inside_stmt
-    inside-Do w a line = ap (inside w) (by-Do funcs under a line Done) ∙ act_closes w a line
+    inside-Do w a line = ap (inside w) (by-Do funcs under a line Done) ∙ act_closes a line w
 
     pub inside-Branch : (w : Around) (c : Cond) (x y : List Stmt) → inside_stmt funcs deep w (Branch c x y) ≡ w
     unfolding inside_stmt

@@ -1,7 +1,7 @@
 -- The edges that the recursion with numbers gives are those of the places.
-use Rattle.std.proofs.Common.{◌≡◌, ℕ, zero, suc, ◌+◌, ◌≤◌, List, [], ◌∷◌, ◌++◌, refl, sym, ap, ◌∙◌, replicate, arith}
+use Rattle.std.proofs.Common.{◌≡◌, ℕ, zero, suc, ◌+◌, ◌≤◌, List, [], ◌∷◌, ◌++◌, refl, sym, ap, ◌∙◌, arith}
 use Rattle.std.proofs.Common.{None}
-use Rattle.std.proofs.lemmas.List.{append_assoc, append-nil, length-replicate}
+use Rattle.std.proofs.lemmas.List.{append_assoc, append-nil}
 use Rattle.c_types.specs.declared.program.Act.{Act}
 use Rattle.c_types.specs.declared.program.Act.TheVariants.{SetPtr, SetData, Free as FreeAct, Error, Halt, Return, Break}
 use Rattle.c_types.specs.declared.program.Act.TheVariants.{Continue, Leave as LeaveAct}
@@ -13,6 +13,7 @@ use Rattle.c_types.proofs.Turns.{then_done}
 use Rattle.c_cfg.specs.declared.graph.Instr.TheVariants.{Kill}
 use Rattle.c_cfg.specs.declared.graph.Edge.{Edge}
 use Rattle.c_lower.specs.declared.around.Around.{Around}
+use Rattle.c_cfg.specs.declared.link.Link.{Link}
 use Rattle.c_cfg.specs.Links.{act_row, enter_row, leave_row, exit_row}
 use Rattle.c_cfg.specs.Places.{test_places, places}
 use Rattle.c_cfg.specs.Lowering.{edge, followed_by}
@@ -22,8 +23,8 @@ use Rattle.c_lower.specs.inner.Numbering.{enter_width, leave_width, exit_width}
 use Rattle.c_lower.specs.inner.Numbering.{atom_edges, place_edges, all_edges, test_lines, lines}
 use Rattle.c_lower.specs.inner.Emitting.{first_of, ptrs_of, datums_of, inside, in_loop, back_of, before, act_to}
 use Rattle.c_lower.specs.inner.Emitting.{act_links, emit_test, emit}
-use Rattle.c_lower.proofs.Lines.{Lined, lined_front, lined_back, replicate_first, atom_wide, test_lines_length}
-use Rattle.c_lower.proofs.Lines.{lines_length}
+use Rattle.c_lower.proofs.Lines.{Lined, lined_front, lined_back, lined_three, lined_four, lined_step, replicate_first}
+use Rattle.c_lower.proofs.Lines.{atom_wide, test_lines_length, lines_length}
 use Rattle.c_types.proofs.Standing.{then_then, open_then}
 use Rattle.c_lower.proofs.Standing.{IsWhole}
 use Rattle.c_lower.proofs.Stacking.{loc_open, loc_ask}
@@ -89,63 +90,27 @@ module _ (nv nd exit : ℕ) (line : ℕ → ℕ) where
     pub datums : closed_datums r ≡ w.datums
     pub backs : loc nv nd exit (opened (from_exit r)) ≡ w.back
 
-  after_then : (n : ℕ) (is : Items) (i : ℕ) (r : Items) → IsWhole n is → after_again (number nv nd is i then r)
-      ≡ after_again r
-  after_then n Done i r p = refl
-  after_then n (Do a m is) i r p = after_then n is _ r p
-  after_then n (Close ps ds m is) i r p = after_then n is _ r p
-  after_then n (If c x y is) i r p = after_then n is _ r p.2
-  after_then n (Loop c d b is) i r p = after_then n is _ r p.2
-  after_then n (Again c d b is) i r p = absurd p
-  after_then n (DoLoop c b is) i r p = after_then n is _ r p.1
-  after_then n (DoAgain c b is) i r p = absurd p
-  after_then n (Enter vs ws m is) i r p = after_then (suc n) is _ r p
-  after_then n (Leave v vs a m is) i r p = after_then n is _ r p
-  after_then zero (Exit v vs d m is) i r p = absurd p
-  after_then (suc n) (Exit v vs d m is) i r p = after_then n is _ r p
-
-  from_then : (n : ℕ) (is : Items) (i : ℕ) (r : Items) → IsWhole n is → from_again (number nv nd is i then r)
-      ≡ from_again r
-  from_then n Done i r p = refl
-  from_then n (Do a m is) i r p = from_then n is _ r p
-  from_then n (Close ps ds m is) i r p = from_then n is _ r p
-  from_then n (If c x y is) i r p = from_then n is _ r p.2
-  from_then n (Loop c d b is) i r p = from_then n is _ r p.2
-  from_then n (Again c d b is) i r p = absurd p
-  from_then n (DoLoop c b is) i r p = from_then n is _ r p.1
-  from_then n (DoAgain c b is) i r p = absurd p
-  from_then n (Enter vs ws m is) i r p = from_then (suc n) is _ r p
-  from_then n (Leave v vs a m is) i r p = from_then n is _ r p
-  from_then zero (Exit v vs d m is) i r p = absurd p
-  from_then (suc n) (Exit v vs d m is) i r p = from_then n is _ r p
-
-  ptrs_then : (is : Items) (i : ℕ) (r : Items) (ps : List ℕ) → closed_ptrs r ≡ ps
-      → closed_ptrs (number nv nd is i then r) ≡ ptrs_of is ps
-  ptrs_then Done i r qs e = e
-  ptrs_then (Do a m is) i r qs e = ptrs_then is _ r qs e
-  ptrs_then (Close ps ds m is) i r qs e = ap (merged ps) (ptrs_then is _ r qs e)
-  ptrs_then (If c x y is) i r qs e = ptrs_then is _ r qs e
-  ptrs_then (Loop c n b is) i r qs e = ptrs_then is _ r qs e
-  ptrs_then (Again c n b is) i r qs e = refl
-  ptrs_then (DoLoop c b is) i r qs e = ptrs_then is _ r qs e
-  ptrs_then (DoAgain c b is) i r qs e = refl
-  ptrs_then (Enter vs ws m is) i r qs e = ptrs_then is _ r qs e
-  ptrs_then (Leave v vs a m is) i r qs e = ptrs_then is _ r qs e
-  ptrs_then (Exit v vs d m is) i r qs e = ptrs_then is _ r qs e
-
-  datums_then : (is : Items) (i : ℕ) (r : Items) (ps : List ℕ) → closed_datums r ≡ ps
-      → closed_datums (number nv nd is i then r) ≡ datums_of is ps
-  datums_then Done i r qs e = e
-  datums_then (Do a m is) i r qs e = datums_then is _ r qs e
-  datums_then (Close ps ds m is) i r qs e = ap (merged ds) (datums_then is _ r qs e)
-  datums_then (If c x y is) i r qs e = datums_then is _ r qs e
-  datums_then (Loop c n b is) i r qs e = datums_then is _ r qs e
-  datums_then (Again c n b is) i r qs e = refl
-  datums_then (DoLoop c b is) i r qs e = datums_then is _ r qs e
-  datums_then (DoAgain c b is) i r qs e = refl
-  datums_then (Enter vs ws m is) i r qs e = datums_then is _ r qs e
-  datums_then (Leave v vs a m is) i r qs e = datums_then is _ r qs e
-  datums_then (Exit v vs d m is) i r qs e = datums_then is _ r qs e
+  -- the end of a round, and which variables die with it: whole items have no Again
+  round_then : (n : ℕ) (is : Items) (i : ℕ) (r : Items) (ps ds : List ℕ) → IsWhole n is → closed_ptrs r ≡ ps
+      → closed_datums r ≡ ds
+      → (after_again (number nv nd is i then r) ≡ after_again r)
+      × (from_again (number nv nd is i then r) ≡ from_again r)
+      × (closed_ptrs (number nv nd is i then r) ≡ ptrs_of is ps)
+      × (closed_datums (number nv nd is i then r) ≡ datums_of is ds)
+  round_then n Done i r ps ds p e f = (refl, refl, e, f)
+  round_then n (Do a m is) i r ps ds p e f = round_then n is (i + act_width nv nd a) r ps ds p e f
+  round_then n (Close qs es m is) i r ps ds p e f =
+      let h = round_then n is (i + 1) r ps ds p e f in
+      (h.0, h.1, ap (merged qs) h.2, ap (merged es) h.3)
+  round_then n (If c x y is) i r ps ds p e f = round_then n is _ r ps ds p.2 e f
+  round_then n (Loop c d b is) i r ps ds p e f = round_then n is _ r ps ds p.2 e f
+  round_then n (Again c d b is) i r ps ds p e f = absurd p
+  round_then n (DoLoop c b is) i r ps ds p e f = round_then n is _ r ps ds p.1 e f
+  round_then n (DoAgain c b is) i r ps ds p e f = absurd p
+  round_then n (Enter vs ws m is) i r ps ds p e f = round_then (suc n) is _ r ps ds p e f
+  round_then n (Leave v vs a m is) i r ps ds p e f = round_then n is _ r ps ds p e f
+  round_then zero (Exit v vs t m is) i r ps ds p e f = absurd p
+  round_then (suc n) (Exit v vs t m is) i r ps ds p e f = round_then n is _ r ps ds p e f
 
   back_then : (n : ℕ) (is : Items) → IsWhole n is → (m : ℕ) → m ≤ n → (i : ℕ) (r : Items) (b : ℕ)
       → loc nv nd exit (opened (from_exit r)) ≡ b
@@ -167,13 +132,15 @@ module _ (nv nd exit : ℕ) (line : ℕ → ℕ) where
 
   fits_before : (n : ℕ) (is : Items) (i : ℕ) (r : Items) (w : Around) → IsWhole n is → Fits r w
       → Fits (number nv nd is i then r) (before nv nd w is i)
-  fits_before n is i r w p f = record {
-    leaves = ap (λ z. loc nv nd exit (opened z)) (after_then n is i r p) ∙ f.leaves;
-    agains = ap (λ z. loc nv nd exit (opened z)) (from_then n is i r p) ∙ f.agains;
-    ptrs = ptrs_then is i r w.ptrs f.ptrs;
-    datums = datums_then is i r w.datums f.datums;
-    backs = back_then n is p 0 (omega arith) i r w.back f.backs;
-  }
+  fits_before n is i r w p f =
+      let end = round_then n is i r w.ptrs w.datums p f.ptrs f.datums in
+      record {
+        leaves = ap (λ z. loc nv nd exit (opened z)) end.0 ∙ f.leaves;
+        agains = ap (λ z. loc nv nd exit (opened z)) end.1 ∙ f.agains;
+        ptrs = end.2;
+        datums = end.3;
+        backs = back_then n is p 0 (omega arith) i r w.back f.backs;
+      }
 
   act_emits : (a : Act) (m i : ℕ) (is : Items) (w : Around) (k : ℕ) → loc nv nd exit (opened is) ≡ k → Fits is w
       → chain (line i) (act_row nv nd a is) i (loc nv nd exit (opened (followed_by a is)))
@@ -203,6 +170,12 @@ module _ (nv nd exit : ℕ) (line : ℕ → ℕ) where
       ∙ ap (λ es. es ++ all_edges nv nd exit line (ys ++ (zs ++ ws))) ea
       ∙ ap (λ es. a ++ es) (three_more ys zs ws b c d eb ec ed)
 
+  -- the links of a step, with its line and where they lead, before other edges
+  chain_more : (row : List Link) (i l m a b : ℕ) (xs ys : List Edge) → l ≡ m → a ≡ b → xs ≡ ys
+      → chain l row i a ++ xs ≡ chain m row i b ++ ys
+  chain_more row i l m a b xs ys el ea ex =
+      ap (λ q. chain q row i a ++ xs) el ∙ ap (λ q. chain m row i q ++ xs) ea ∙ ap (λ es. chain m row i b ++ es) ex
+
   -- The contract of the code: for whatever items come after.
   pub emits : (n : ℕ) (is : Items) → IsWhole n is → (i : ℕ) (r : Items) (w : Around) (k : ℕ) → loc nv nd exit (opened r)
       ≡ k
@@ -212,19 +185,17 @@ module _ (nv nd exit : ℕ) (line : ℕ → ℕ) where
   emits n (Do a m is) p i r w k e f h =
       let j = i + act_width nv nd a in
       let after = number nv nd is j then r in
+      let l = lined_step nv nd line i (act_width nv nd a) m (lines nv nd is) (omega arith) h in
       ap (λ es. es ++ all_edges nv nd exit line (places (number nv nd is j) r))
       (act_emits a m i after (before nv nd w is j) (first_of (width nv nd is) j k) (leads is j r k e)
       (fits_before n is j r w p f)
       ∙ ap
       (λ q. chain q (act_links nv nd (inside w is) a) i
       (act_to exit (before nv nd w is j) a (first_of (width nv nd is) j k)))
-      (replicate_first nv nd line i (act_width nv nd a) m (omega arith)
-      (lined_front nv nd line i (replicate (act_width nv nd a) m) (lines nv nd is) h))
+      l.0
       ∙ ap (λ t. chain m (act_links nv nd (inside w is) a) i t) (same_to a))
       ∙ ap (λ es. chain m (act_links nv nd (inside w is) a) i (act_to exit w a (first_of (width nv nd is) j k)) ++ es)
-      (emits n is p j r w k e f
-      (lined_back nv nd line i (act_width nv nd a) (replicate (act_width nv nd a) m) (lines nv nd is)
-      (length-replicate (act_width nv nd a) m) h))
+      (emits n is p j r w k e f l.1)
     where
       same_to : (a : Act)
           → act_to exit (before nv nd w is (i + act_width nv nd a)) a
@@ -252,20 +223,13 @@ module _ (nv nd exit : ℕ) (line : ℕ → ℕ) where
       let q = number nv nd is i3 then r in
       let eq : loc nv nd exit (opened q) ≡ after = leads is i3 r k e in
       let fq : Fits q (before nv nd w is i3) = fits_before n is i3 r w p.2 f in
-      let h1 = lined_back nv nd line i (test_width nv nd c) (test_lines nv nd c)
-      (lines nv nd x ++ (lines nv nd y ++ lines nv nd is)) (test_lines_length nv nd c) h in
-      let h2 = lined_back nv nd line i1 (width nv nd x) (lines nv nd x) (lines nv nd y ++ lines nv nd is)
-      (lines_length nv nd x) h1 in
-      let h3 = lined_back nv nd line i2 (width nv nd y) (lines nv nd y) (lines nv nd is) (lines_length nv nd y) h2 in
+      let l = lined_four nv nd line i _ _ _ (test_lines nv nd c) (lines nv nd x) (lines nv nd y) (lines nv nd is)
+      (test_lines_length nv nd c) (lines_length nv nd x) (lines_length nv nd y) h in
       four_more (test_places (number_test nv nd c i) (number nv nd x i1) (number nv nd y i2) q)
       (places (number nv nd x i1) q) (places (number nv nd y i2) q) (places (number nv nd is i3) r) _ _ _ _
-      (test_emits c i (number nv nd x i1) (number nv nd y i2) q _ _ (leads x i1 q after eq) (leads y i2 q after eq)
-      (lined_front nv nd line i (test_lines nv nd c) (lines nv nd x ++ (lines nv nd y ++ lines nv nd is)) h))
-      (emits 0 x p.0 i1 q (before nv nd w is i3) after eq fq
-      (lined_front nv nd line i1 (lines nv nd x) (lines nv nd y ++ lines nv nd is) h1))
-      (emits 0 y p.1 i2 q (before nv nd w is i3) after eq fq
-      (lined_front nv nd line i2 (lines nv nd y) (lines nv nd is) h2))
-      (emits n is p.2 i3 r w k e f h3)
+      (test_emits c i (number nv nd x i1) (number nv nd y i2) q _ _ (leads x i1 q after eq) (leads y i2 q after eq) l.0)
+      (emits 0 x p.0 i1 q (before nv nd w is i3) after eq fq l.1)
+      (emits 0 y p.1 i2 q (before nv nd w is i3) after eq fq l.2) (emits n is p.2 i3 r w k e f l.3)
   emits l (Loop c n b is) p i r w k e f h =
       let i1 = i + test_width nv nd c in let i2 = i1 + width nv nd b in let i3 = i2 + width nv nd n in
       let after = first_of (width nv nd is) i3 k in
@@ -277,11 +241,8 @@ module _ (nv nd exit : ℕ) (line : ℕ → ℕ) where
       let ea : loc nv nd exit (opened (Again C N B q)) ≡ again =
       loc_open nv nd exit n i2 (Loop C N B (q then Done)) (ask C (round C N B) Done (q then Done))
       ∙ first_same (width nv nd n) i2 _ i (loc_ask nv nd exit i c (round C N B) Done (q then Done)) in
-      let h1 = lined_back nv nd line i (test_width nv nd c) (test_lines nv nd c)
-      (lines nv nd b ++ (lines nv nd n ++ lines nv nd is)) (test_lines_length nv nd c) h in
-      let h2 = lined_back nv nd line i1 (width nv nd b) (lines nv nd b) (lines nv nd n ++ lines nv nd is)
-      (lines_length nv nd b) h1 in
-      let h3 = lined_back nv nd line i2 (width nv nd n) (lines nv nd n) (lines nv nd is) (lines_length nv nd n) h2 in
+      let h1 = lined_four nv nd line i _ _ _ (test_lines nv nd c) (lines nv nd b) (lines nv nd n) (lines nv nd is)
+      (test_lines_length nv nd c) (lines_length nv nd b) (lines_length nv nd n) h in
       let g = fits_before l is i3 r w p.2 f in
       let fb : Fits (Again C N B q) (in_loop after again (back_of nv nd is 0 i3 w.back)) =
       record { leaves = eq; agains = ea; ptrs = refl; datums = refl; backs = g.backs } in
@@ -291,12 +252,9 @@ module _ (nv nd exit : ℕ) (line : ℕ → ℕ) where
       (places (number nv nd is i3) r) _ _ _ _
       (test_emits c i (round C N B) Done q _ _
       (ap (λ z. loc nv nd exit (opened z)) (then_then B (Again C N B Done) q) ∙ leads b i1 (Again C N B q) again ea)
-      eq (lined_front nv nd line i (test_lines nv nd c) (lines nv nd b ++ (lines nv nd n ++ lines nv nd is)) h))
-      (emits 0 b p.1 i1 (Again C N B q) _ again ea fb
-      (lined_front nv nd line i1 (lines nv nd b) (lines nv nd n ++ lines nv nd is) h1))
-      (emits 0 n p.0 i2 (Loop C N B q) (before nv nd w is i3) i el fn
-      (lined_front nv nd line i2 (lines nv nd n) (lines nv nd is) h2))
-      (emits l is p.2 i3 r w k e f h3)
+      eq h1.0)
+      (emits 0 b p.1 i1 (Again C N B q) _ again ea fb h1.1)
+      (emits 0 n p.0 i2 (Loop C N B q) (before nv nd w is i3) i el fn h1.2) (emits l is p.2 i3 r w k e f h1.3)
     where
       first_same : (v j a b : ℕ) → a ≡ b → first_of v j a ≡ first_of v j b
       first_same zero j a b e = e
@@ -309,10 +267,8 @@ module _ (nv nd exit : ℕ) (line : ℕ → ℕ) where
       let eq : loc nv nd exit (opened q) ≡ after = leads is i2 r k e in
       let ea : loc nv nd exit (opened (DoAgain C B q)) ≡ i1 =
       loc_ask nv nd exit i1 c (do_round C B) Done (q then Done) in
-      let h1 = lined_back nv nd line i (width nv nd b) (lines nv nd b) (test_lines nv nd c ++ lines nv nd is)
-      (lines_length nv nd b) h in
-      let h2 = lined_back nv nd line i1 (test_width nv nd c) (test_lines nv nd c) (lines nv nd is)
-      (test_lines_length nv nd c) h1 in
+      let l = lined_three nv nd line i _ _ (lines nv nd b) (test_lines nv nd c) (lines nv nd is) (lines_length nv nd b)
+      (test_lines_length nv nd c) h in
       let fb : Fits (DoAgain C B q) (in_loop after i1 (back_of nv nd is 0 i2 w.back)) =
       record {
         leaves = eq;
@@ -322,42 +278,23 @@ module _ (nv nd exit : ℕ) (line : ℕ → ℕ) where
         backs = back_then n is p.1 0 (omega arith) i2 r w.back f.backs;
       } in
       three_more (places B (DoAgain C B q)) (test_places C (do_round C B) Done q) (places (number nv nd is i2) r) _ _ _
-      (emits 0 b p.0 i (DoAgain C B q) _ i1 ea fb
-      (lined_front nv nd line i (lines nv nd b) (test_lines nv nd c ++ lines nv nd is) h))
+      (emits 0 b p.0 i (DoAgain C B q) _ i1 ea fb l.0)
       (test_emits c i1 (do_round C B) Done q _ _
       (ap (λ z. loc nv nd exit (opened z)) (then_then B (DoAgain C B Done) q) ∙ leads b i (DoAgain C B q) i1 ea) eq
-      (lined_front nv nd line i1 (test_lines nv nd c) (lines nv nd is) h1))
-      (emits n is p.1 i2 r w k e f h2)
+      l.1) (emits n is p.1 i2 r w k e f l.2)
   emits n (Again c d b is) p i r w k e f h = absurd p
   emits n (DoAgain c b is) p i r w k e f h = absurd p
   emits n (Enter vs ws m is) p i r w k e f h =
-      let x = enter_width nv nd vs ws in let j = i + x in
-      ap (λ q. chain q (enter_row nv nd vs ws) i (loc nv nd exit (opened (number nv nd is j then r)))
-      ++ all_edges nv nd exit line (places (number nv nd is j) r))
-      (replicate_first nv nd line i x m (omega arith) (lined_front nv nd line i (replicate x m) (lines nv nd is) h))
-      ∙ ap (λ q. chain m (enter_row nv nd vs ws) i q ++ all_edges nv nd exit line (places (number nv nd is j) r))
-      (leads is j r k e)
-      ∙ ap (λ es. chain m (enter_row nv nd vs ws) i (first_of (width nv nd is) j k) ++ es)
-      (emits (suc n) is p j r w k e f
-      (lined_back nv nd line i x (replicate x m) (lines nv nd is) (length-replicate x m) h))
+      let j = i + enter_width nv nd vs ws in
+      let l = lined_step nv nd line i (enter_width nv nd vs ws) m (lines nv nd is) (omega arith) h in
+      chain_more (enter_row nv nd vs ws) i _ _ _ _ _ _ l.0 (leads is j r k e) (emits (suc n) is p j r w k e f l.1)
   emits n (Leave v vs a m is) p i r w k e f h =
-      let x = leave_width nv nd v vs a in let j = i + x in
-      ap (λ q. chain q (leave_row nv nd v vs a) i (loc nv nd exit (opened (from_exit (number nv nd is j then r))))
-      ++ all_edges nv nd exit line (places (number nv nd is j) r))
-      (replicate_first nv nd line i x m (omega arith) (lined_front nv nd line i (replicate x m) (lines nv nd is) h))
-      ∙ ap (λ q. chain m (leave_row nv nd v vs a) i q ++ all_edges nv nd exit line (places (number nv nd is j) r))
-      (back_then n is p 0 (omega arith) j r w.back f.backs)
-      ∙ ap (λ es. chain m (leave_row nv nd v vs a) i (back_of nv nd is 0 j w.back) ++ es)
-      (emits n is p j r w k e f
-      (lined_back nv nd line i x (replicate x m) (lines nv nd is) (length-replicate x m) h))
+      let j = i + leave_width nv nd v vs a in
+      let l = lined_step nv nd line i (leave_width nv nd v vs a) m (lines nv nd is) (omega arith) h in
+      chain_more (leave_row nv nd v vs a) i _ _ _ _ _ _ l.0 (back_then n is p 0 (omega arith) j r w.back f.backs)
+      (emits n is p j r w k e f l.1)
   emits zero (Exit v vs d m is) p i r w k e f h = absurd p
   emits (suc n) (Exit v vs d m is) p i r w k e f h =
-      let x = exit_width nv nd v vs d in let j = i + x in
-      ap (λ q. chain q (exit_row nv nd v vs d) i (loc nv nd exit (opened (number nv nd is j then r)))
-      ++ all_edges nv nd exit line (places (number nv nd is j) r))
-      (replicate_first nv nd line i x m (omega arith) (lined_front nv nd line i (replicate x m) (lines nv nd is) h))
-      ∙ ap (λ q. chain m (exit_row nv nd v vs d) i q ++ all_edges nv nd exit line (places (number nv nd is j) r))
-      (leads is j r k e)
-      ∙ ap (λ es. chain m (exit_row nv nd v vs d) i (first_of (width nv nd is) j k) ++ es)
-      (emits n is p j r w k e f
-      (lined_back nv nd line i x (replicate x m) (lines nv nd is) (length-replicate x m) h))
+      let j = i + exit_width nv nd v vs d in
+      let l = lined_step nv nd line i (exit_width nv nd v vs d) m (lines nv nd is) (omega arith) h in
+      chain_more (exit_row nv nd v vs d) i _ _ _ _ _ _ l.0 (leads is j r k e) (emits n is p j r w k e f l.1)

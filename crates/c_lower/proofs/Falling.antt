@@ -2,8 +2,7 @@
 use Rattle.std.specs.Prelude.{get_or, pred}
 use Rattle.std.proofs.Common.{◌≡◌, ℕ, zero, suc, ◌+◌, ◌<◌, ◌≤◌, List, [], ◌∷◌, length, map, slice_get, Option, Some}
 use Rattle.std.proofs.Common.{None}
-use Rattle.std.proofs.Common.{refl, sym, ap, ◌∙◌, arith}
-use Rattle.c_types.specs.declared.program.Act.{Act}
+use Rattle.std.proofs.Common.{refl, ap, arith}
 use Rattle.c_types.specs.declared.program.Arg.{Arg}
 use Rattle.c_types.specs.declared.program.Cond.{Cond}
 use Rattle.c_types.specs.declared.program.Dest.{Dest}

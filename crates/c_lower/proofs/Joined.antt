@@ -9,44 +9,33 @@ use Rattle.c_types.specs.Control.{merged}
 use Rattle.c_cfg.specs.declared.graph.Instr.TheVariants.{Kill}
 use Rattle.c_cfg.specs.declared.graph.Edge.{Edge}
 use Rattle.c_lower.specs.declared.around.Around.{Around}
+use Rattle.c_cfg.specs.declared.link.Link.{Link}
 use Rattle.c_cfg.specs.Links.{enter_row, leave_row, exit_row}
 use Rattle.c_cfg.specs.Lowering.{edge}
 use Rattle.c_links.specs.Chains.{chain}
 use Rattle.c_lower.specs.inner.Numbering.{act_width, test_width, width, enter_width, leave_width, exit_width}
-use Rattle.c_lower.specs.inner.Emitting.{first_of, ptrs_of, datums_of, inside, in_call, in_loop, back_of, before}
-use Rattle.c_lower.specs.inner.Emitting.{act_to, act_links, emit_test, emit}
+use Rattle.c_lower.specs.inner.Emitting.{first_of, dying, ptrs_of, datums_of, inside, in_call, in_loop, back_of}
+use Rattle.c_lower.specs.inner.Emitting.{before, act_to, act_links, emit_test, emit}
 use Rattle.c_lower.proofs.Standing.{IsWhole}
 
-ptrs_both : (c d : Items) (ps : List ℕ) → ptrs_of (c then d) ps ≡ ptrs_of c (ptrs_of d ps)
-ptrs_both Done d ps = refl
-ptrs_both (Do a m is) d ps = ptrs_both is d ps
-ptrs_both (Close qs ds m is) d ps = ap (merged qs) (ptrs_both is d ps)
-ptrs_both (If c x y is) d ps = ptrs_both is d ps
-ptrs_both (Loop c n b is) d ps = ptrs_both is d ps
-ptrs_both (Again c n b is) d ps = refl
-ptrs_both (DoLoop c b is) d ps = ptrs_both is d ps
-ptrs_both (DoAgain c b is) d ps = refl
-ptrs_both (Enter vs ws m is) e ps = ptrs_both is e ps
-ptrs_both (Leave v vs a m is) e ps = ptrs_both is e ps
-ptrs_both (Exit v vs d m is) e ps = ptrs_both is e ps
-
-datums_both : (c d : Items) (ps : List ℕ) → datums_of (c then d) ps ≡ datums_of c (datums_of d ps)
-datums_both Done d ps = refl
-datums_both (Do a m is) d ps = datums_both is d ps
-datums_both (Close qs ds m is) d ps = ap (merged ds) (datums_both is d ps)
-datums_both (If c x y is) d ps = datums_both is d ps
-datums_both (Loop c n b is) d ps = datums_both is d ps
-datums_both (Again c n b is) d ps = refl
-datums_both (DoLoop c b is) d ps = datums_both is d ps
-datums_both (DoAgain c b is) d ps = refl
-datums_both (Enter vs ws m is) e ps = datums_both is e ps
-datums_both (Leave v vs a m is) e ps = datums_both is e ps
-datums_both (Exit v vs d m is) e ps = datums_both is e ps
+dying_both : (own : List ℕ → List ℕ → List ℕ) (c d : Items) (ps : List ℕ)
+    → dying own (c then d) ps ≡ dying own c (dying own d ps)
+dying_both own Done d ps = refl
+dying_both own (Do a m is) d ps = dying_both own is d ps
+dying_both own (Close qs ds m is) d ps = ap (merged (own qs ds)) (dying_both own is d ps)
+dying_both own (If c x y is) d ps = dying_both own is d ps
+dying_both own (Loop c n b is) d ps = dying_both own is d ps
+dying_both own (Again c n b is) d ps = refl
+dying_both own (DoLoop c b is) d ps = dying_both own is d ps
+dying_both own (DoAgain c b is) d ps = refl
+dying_both own (Enter vs ws m is) e ps = dying_both own is e ps
+dying_both own (Leave v vs a m is) e ps = dying_both own is e ps
+dying_both own (Exit v vs d m is) e ps = dying_both own is e ps
 
 pub inside_both : (w : Around) (c d : Items) → inside w (c then d) ≡ inside (inside w d) c
 inside_both w c d =
-    ap (λ (ps : List ℕ). in_place ps (datums_of (c then d) w.datums)) (ptrs_both c d w.ptrs)
-    ∙ ap (λ (ds : List ℕ). in_place (ptrs_of c (ptrs_of d w.ptrs)) ds) (datums_both c d w.datums)
+    ap (λ (ps : List ℕ). in_place ps (datums_of (c then d) w.datums)) (dying_both (λ ps ds. ps) c d w.ptrs)
+    ∙ ap (λ (ds : List ℕ). in_place (ptrs_of c (ptrs_of d w.ptrs)) ds) (dying_both (λ ps ds. ds) c d w.datums)
   where
     in_place : List ℕ → List ℕ → Around
     in_place ps ds = record { leave = w.leave; again = w.again; ptrs = ps; datums = ds; back = w.back }
@@ -56,6 +45,13 @@ first_both zero zero i j k e = refl
 first_both zero (suc u) i j k e = let q : 0 + suc u ≡ suc u = omega arith in ap (λ n. first_of n i k) q
     ∙ omega (arith, e)
 first_both (suc v) u i j k e = let q : suc v + u ≡ suc (v + u) = omega arith in ap (λ n. first_of n i k) q
+
+module _ {A : Type 0} where
+  pub assoc3 : (a b c d : List A) → a ++ (b ++ (c ++ d)) ≡ (a ++ (b ++ c)) ++ d
+  assoc3 a b c d = ap (λ es. a ++ es) (sym (append_assoc b c d)) ∙ sym (append_assoc a (b ++ c) d)
+
+  assoc4 : (a b c d e : List A) → a ++ (b ++ (c ++ (d ++ e))) ≡ (a ++ (b ++ (c ++ d))) ++ e
+  assoc4 a b c d e = ap (λ es. a ++ es) (assoc3 b c d e) ∙ sym (append_assoc a (b ++ (c ++ d)) e)
 
 module _ (nv nd : ℕ) where
   pub width_then : (c d : Items) → width nv nd (c then d) ≡ width nv nd c + width nv nd d
@@ -135,11 +131,11 @@ module _ (nv nd exit : ℕ) where
   after_both is d i j k e = ap (λ v. first_of v i k) (width_then nv nd is d)
       ∙ first_both (width nv nd is) (width nv nd d) i j k e
 
-  assoc3 : (a b c d : List Edge) → a ++ (b ++ (c ++ d)) ≡ (a ++ (b ++ c)) ++ d
-  assoc3 a b c d = ap (λ es. a ++ es) (sym (append_assoc b c d)) ∙ sym (append_assoc a (b ++ c) d)
-
-  assoc4 : (a b c d e : List Edge) → a ++ (b ++ (c ++ (d ++ e))) ≡ (a ++ (b ++ (c ++ d))) ++ e
-  assoc4 a b c d e = ap (λ es. a ++ es) (assoc3 b c d e) ∙ sym (append_assoc a (b ++ (c ++ d)) e)
+  -- the edges of a step before those of two parts
+  chain_then : (row : List Link) (i m a b : ℕ) (xs ys zs : List Edge) → a ≡ b → xs ≡ ys ++ zs
+      → chain m row i a ++ xs ≡ (chain m row i b ++ ys) ++ zs
+  chain_then row i m a b xs ys zs ea ex = ap (λ q. chain m row i q ++ xs) ea ∙ ap (λ es. chain m row i b ++ es) ex
+      ∙ sym (append_assoc (chain m row i b) ys zs)
 
   pub emit_then : (n : ℕ) (c : Items) → IsWhole n c → (d : Items) (w : Around) (i j k : ℕ) → j ≡ i + width nv nd c
       → emit nv nd exit (c then d) w i k ≡ emit nv nd exit c (before nv nd w d j) i (first_of (width nv nd d) j k)
@@ -151,15 +147,8 @@ module _ (nv nd exit : ℕ) where
       let to = first_of (width nv nd is) i1 (first_of (width nv nd d) j k) in
       ap (λ q. chain m (act_links nv nd q a) i (act_to exit w a (first_of (width nv nd (is then d)) i1 k))
       ++ emit nv nd exit (is then d) w i1 k) (inside_both w is d)
-      ∙ ap (λ q. chain m (act_links nv nd (inside (inside w d) is) a) i (act_to exit w a q)
-      ++ emit nv nd exit (is then d) w i1 k) (after_both is d i1 j k e1)
-      ∙ ap (λ q. chain m (act_links nv nd (inside (inside w d) is) a) i q ++ emit nv nd exit (is then d) w i1 k)
-      (act_same w d a j to)
-      ∙ ap
-      (λ es. chain m (act_links nv nd (inside (inside w d) is) a) i (act_to exit (before nv nd w d j) a to) ++ es)
-      (emit_then n is p d w i1 j k e1)
-      ∙ sym (append_assoc
-      (chain m (act_links nv nd (inside (inside w d) is) a) i (act_to exit (before nv nd w d j) a to)) _ _)
+      ∙ chain_then (act_links nv nd (inside (inside w d) is) a) i m _ _ _ _ _
+      (ap (act_to exit w a) (after_both is d i1 j k e1) ∙ act_same w d a j to) (emit_then n is p d w i1 j k e1)
   emit_then n (Close ps ds m is) p d w i j k e =
       let e1 : j ≡ i + 1 + width nv nd is = omega (arith, e) in
       ap (λ q. edge m i q (Kill ps ds) None ∷ emit nv nd exit (is then d) w (i + 1) k) (after_both is d (i + 1) j k e1)
@@ -224,23 +213,15 @@ module _ (nv nd exit : ℕ) where
   emit_then n (Enter vs ws m is) p d w i j k e =
       let i1 = i + enter_width nv nd vs ws in
       let e1 : j ≡ i1 + width nv nd is = omega (arith, e) in
-      let to = first_of (width nv nd is) i1 (first_of (width nv nd d) j k) in
-      ap (λ q. chain m (enter_row nv nd vs ws) i q ++ emit nv nd exit (is then d) w i1 k) (after_both is d i1 j k e1)
-      ∙ ap (λ es. chain m (enter_row nv nd vs ws) i to ++ es) (emit_then (suc n) is p d w i1 j k e1)
-      ∙ sym (append_assoc (chain m (enter_row nv nd vs ws) i to) _ _)
+      chain_then (enter_row nv nd vs ws) i m _ _ _ _ _ (after_both is d i1 j k e1)
+      (emit_then (suc n) is p d w i1 j k e1)
   emit_then n (Leave v vs a m is) p d w i j k e =
       let i1 = i + leave_width nv nd v vs a in
       let e1 : j ≡ i1 + width nv nd is = omega (arith, e) in
-      let to = back_of nv nd is 0 i1 (back_of nv nd d 0 j w.back) in
-      ap (λ q. chain m (leave_row nv nd v vs a) i q ++ emit nv nd exit (is then d) w i1 k)
-      (back_both nv nd n is p 0 (omega arith) d i1 j w.back e1)
-      ∙ ap (λ es. chain m (leave_row nv nd v vs a) i to ++ es) (emit_then n is p d w i1 j k e1)
-      ∙ sym (append_assoc (chain m (leave_row nv nd v vs a) i to) _ _)
+      chain_then (leave_row nv nd v vs a) i m _ _ _ _ _ (back_both nv nd n is p 0 (omega arith) d i1 j w.back e1)
+      (emit_then n is p d w i1 j k e1)
   emit_then zero (Exit v vs t m is) p d w i j k e = absurd p
   emit_then (suc n) (Exit v vs t m is) p d w i j k e =
       let i1 = i + exit_width nv nd v vs t in
       let e1 : j ≡ i1 + width nv nd is = omega (arith, e) in
-      let to = first_of (width nv nd is) i1 (first_of (width nv nd d) j k) in
-      ap (λ q. chain m (exit_row nv nd v vs t) i q ++ emit nv nd exit (is then d) w i1 k) (after_both is d i1 j k e1)
-      ∙ ap (λ es. chain m (exit_row nv nd v vs t) i to ++ es) (emit_then n is p d w i1 j k e1)
-      ∙ sym (append_assoc (chain m (exit_row nv nd v vs t) i to) _ _)
+      chain_then (exit_row nv nd v vs t) i m _ _ _ _ _ (after_both is d i1 j k e1) (emit_then n is p d w i1 j k e1)

@@ -13,7 +13,9 @@ use Rattle.c_types.specs.declared.program.Dest.{Dest}
 use Rattle.c_types.specs.declared.program.Stmt.TheVariants.{Do as DoStmt, Branch, While, DoWhile, For, Group, Call}
 use Rattle.c_types.specs.declared.program.Func.{Func}
 use Rattle.c_types.specs.Control.{Items, Done, Loop, Exit, ◌then◌, closes, leave_items, act_items, body_within, test_of}
+use Rattle.c_types.proofs.Composing.{act_composed}
 use Rattle.c_types.proofs.Layers.{by-Do, by-Branch, by-While, by-DoWhile, by-For, by-Group}
+use Rattle.c_types.proofs.Standing.{all_stand}
 use Rattle.c_lower.specs.declared.around.Around.{Around}
 use Rattle.c_links.specs.Chains.{chain}
 use Rattle.c_cfg.specs.Links.{enter_row, exit_row}
@@ -23,7 +25,7 @@ use Rattle.c_lower.specs.inner.Emitting.{first_of, in_loop, in_call, inside, clo
 use Rattle.c_lower.specs.inner.Emitting.{emit_test, head_numbers, reached, return_to, step_to, items_one, items_in}
 use Rattle.c_lower.specs.inner.Emitting.{inside_all, wide_stmt, wide_all, emit_stmt, emit_all, heads_stmt, heads_all}
 use Rattle.c_lower.proofs.Closing.{closes_closed}
-use Rattle.c_lower.proofs.Standing.{closes_whole, all_stand, stmt_whole, all_whole, items-more, call_is, call_none}
+use Rattle.c_lower.proofs.Standing.{closes_whole, stmt_whole, all_whole, items-more, call_is, call_none}
 use Rattle.std.proofs.lemmas.List.{drop_all}
 use Rattle.c_lower.proofs.LoopHeads.{heads_then}
 use Rattle.c_lower.proofs.Joined.{width_then, before_whole, emit_then}
@@ -381,21 +383,12 @@ module _ (funcs : List Func) (deep nv nd : ℕ) where
   heads-drop (suc i) (x ∷ ss) s from next h e n = let q : suc i + 1 ≡ suc (i + 1) = omega arith in
       rw q (heads-drop i ss s from next (omega (arith, h)) e n)
 
-  leave_heads : (g : Option Func) (f : ℕ) (value : Option Arg) (line i : ℕ)
-      → head_numbers nv nd (leave_items g f value line Done) i ≡ []
-  leave_heads None f value line i = refl
-  leave_heads (Some g) f value line i = refl
+  -- an act has no loop
+  abbrev HasNoHeads : (Items → Items) → Type 0
+  HasNoHeads f = (i : ℕ) → head_numbers nv nd (f Done) i ≡ []
 
-  act_heads : (a : Act) (line i : ℕ) → head_numbers nv nd (act_items funcs a line Done) i ≡ []
-  act_heads (SetPtr to from) line i = refl
-  act_heads (SetData to from) line i = refl
-  act_heads (Free p) line i = refl
-  act_heads Error line i = refl
-  act_heads Halt line i = refl
-  act_heads (Return operand) line i = refl
-  act_heads (LeaveAct f value) line i = leave_heads (slice_get funcs f) f value line i
-  act_heads Break line i = refl
-  act_heads Continue line i = refl
+  act_heads : (a : Act) (line : ℕ) → HasNoHeads (act_items funcs a line)
+  act_heads = act_composed HasNoHeads (λ a line i. refl) (λ g value line i. refl) funcs
 
   pub heads-Do : (a : Act) (line i : ℕ) → heads_stmt funcs deep nv nd (DoStmt a line) i ≡ []
   unfolding heads_stmt

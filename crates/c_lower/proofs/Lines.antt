@@ -13,96 +13,38 @@ use Rattle.c_lower.specs.inner.Numbering.{act_width, atom_width, test_width, wid
 use Rattle.c_lower.specs.inner.Numbering.{enter_width, leave_width, exit_width, lines}
 
 module _ (nv nd : ℕ) where
+  both_long : (xs ys : List ℕ) (a b : ℕ) → length xs ≡ a → length ys ≡ b → length (xs ++ ys) ≡ a + b
+  both_long xs ys a b e f = omega (arith, length-append xs ys, e, f)
+
+  step_long : (n m : ℕ) (ys : List ℕ) (b : ℕ) → length ys ≡ b → length (replicate n m ++ ys) ≡ n + b
+  step_long n m ys b e = both_long (replicate n m) ys n b (length-replicate n m) e
+
   pub test_lines_length : (c : Test) → length (test_lines nv nd c) ≡ test_width nv nd c
   test_lines_length (Ask a m) = length-replicate (atom_width nv nd a) m
   test_lines_length (Not c) = test_lines_length c
-  test_lines_length (Both c d) =
-      omega (arith, length-append (test_lines nv nd c) (test_lines nv nd d), test_lines_length c, test_lines_length d)
-  test_lines_length (Either c d) =
-      omega (arith, length-append (test_lines nv nd c) (test_lines nv nd d), test_lines_length c, test_lines_length d)
+  test_lines_length (Both c d) = both_long _ _ _ _ (test_lines_length c) (test_lines_length d)
+  test_lines_length (Either c d) = both_long _ _ _ _ (test_lines_length c) (test_lines_length d)
 
   pub lines_length : (is : Items) → length (lines nv nd is) ≡ width nv nd is
   lines_length Done = refl
-  lines_length (Do a m is) =
-      omega (
-        arith,
-        length-append (replicate (act_width nv nd a) m) (lines nv nd is),
-        length-replicate (act_width nv nd a) m,
-        lines_length is,
-      )
+  lines_length (Do a m is) = step_long (act_width nv nd a) m _ _ (lines_length is)
   lines_length (Close ps ds m is) = omega (arith, lines_length is)
   lines_length (If c x y is) =
-      omega (
-        arith,
-        length-append (test_lines nv nd c) (lines nv nd x ++ (lines nv nd y ++ lines nv nd is)),
-        length-append (lines nv nd x) (lines nv nd y ++ lines nv nd is),
-        length-append (lines nv nd y) (lines nv nd is),
-        test_lines_length c,
-        lines_length x,
-        lines_length y,
-        lines_length is,
-      )
+      both_long _ _ _ _ (test_lines_length c)
+      (both_long _ _ _ _ (lines_length x) (both_long _ _ _ _ (lines_length y) (lines_length is)))
   lines_length (Loop c n b is) =
-      omega (
-        arith,
-        length-append (test_lines nv nd c) (lines nv nd b ++ (lines nv nd n ++ lines nv nd is)),
-        length-append (lines nv nd b) (lines nv nd n ++ lines nv nd is),
-        length-append (lines nv nd n) (lines nv nd is),
-        test_lines_length c,
-        lines_length b,
-        lines_length n,
-        lines_length is,
-      )
+      both_long _ _ _ _ (test_lines_length c)
+      (both_long _ _ _ _ (lines_length b) (both_long _ _ _ _ (lines_length n) (lines_length is)))
   lines_length (Again c n b is) =
-      omega (
-        arith,
-        length-append (lines nv nd n) (test_lines nv nd c ++ (lines nv nd b ++ lines nv nd is)),
-        length-append (test_lines nv nd c) (lines nv nd b ++ lines nv nd is),
-        length-append (lines nv nd b) (lines nv nd is),
-        test_lines_length c,
-        lines_length b,
-        lines_length n,
-        lines_length is,
-      )
+      both_long _ _ _ _ (lines_length n)
+      (both_long _ _ _ _ (test_lines_length c) (both_long _ _ _ _ (lines_length b) (lines_length is)))
   lines_length (DoLoop c b is) =
-      omega (
-        arith,
-        length-append (lines nv nd b) (test_lines nv nd c ++ lines nv nd is),
-        length-append (test_lines nv nd c) (lines nv nd is),
-        test_lines_length c,
-        lines_length b,
-        lines_length is,
-      )
+      both_long _ _ _ _ (lines_length b) (both_long _ _ _ _ (test_lines_length c) (lines_length is))
   lines_length (DoAgain c b is) =
-      omega (
-        arith,
-        length-append (test_lines nv nd c) (lines nv nd b ++ lines nv nd is),
-        length-append (lines nv nd b) (lines nv nd is),
-        test_lines_length c,
-        lines_length b,
-        lines_length is,
-      )
-  lines_length (Enter vs ws m is) =
-      omega (
-        arith,
-        length-append (replicate (enter_width nv nd vs ws) m) (lines nv nd is),
-        length-replicate (enter_width nv nd vs ws) m,
-        lines_length is,
-      )
-  lines_length (Leave v vs a m is) =
-      omega (
-        arith,
-        length-append (replicate (leave_width nv nd v vs a) m) (lines nv nd is),
-        length-replicate (leave_width nv nd v vs a) m,
-        lines_length is,
-      )
-  lines_length (Exit v vs d m is) =
-      omega (
-        arith,
-        length-append (replicate (exit_width nv nd v vs d) m) (lines nv nd is),
-        length-replicate (exit_width nv nd v vs d) m,
-        lines_length is,
-      )
+      both_long _ _ _ _ (test_lines_length c) (both_long _ _ _ _ (lines_length b) (lines_length is))
+  lines_length (Enter vs ws m is) = step_long (enter_width nv nd vs ws) m _ _ (lines_length is)
+  lines_length (Leave v vs a m is) = step_long (leave_width nv nd v vs a) m _ _ (lines_length is)
+  lines_length (Exit v vs d m is) = step_long (exit_width nv nd v vs d) m _ _ (lines_length is)
 
   -- from i on, the list L goes on with these lines
   abbrev pub Lined : (ℕ → ℕ) → ℕ → List ℕ → Type 0
@@ -119,6 +61,20 @@ module _ (nv nd : ℕ) where
   lined_back f i (suc n) (x ∷ xs) ys e h = let q : i + 1 + n ≡ i + suc n = omega arith in
       subst (λ k. Lined f k ys) q (lined_back f (i + 1) n xs ys (omega (arith, e)) h.1)
 
+  -- those of three parts, and those of four
+  pub lined_three : (f : ℕ → ℕ) (i a b : ℕ) (xs ys zs : List ℕ) → length xs ≡ a → length ys ≡ b
+      → Lined f i (xs ++ (ys ++ zs)) → Lined f i xs × Lined f (i + a) ys × Lined f (i + a + b) zs
+  lined_three f i a b xs ys zs d e h = let rest = lined_back f i a xs (ys ++ zs) d h in
+      (lined_front f i xs (ys ++ zs) h, lined_front f (i + a) ys zs rest, lined_back f (i + a) b ys zs e rest)
+
+  pub lined_four : (f : ℕ → ℕ) (i a b c : ℕ) (xs ys zs ws : List ℕ) → length xs ≡ a → length ys ≡ b → length zs ≡ c
+      → Lined f i (xs ++ (ys ++ (zs ++ ws)))
+      → Lined f i xs × Lined f (i + a) ys × Lined f (i + a + b) zs × Lined f (i + a + b + c) ws
+  lined_four f i a b c xs ys zs ws d e g h =
+      let rest = lined_back f i a xs (ys ++ (zs ++ ws)) d h in
+      let parts = lined_three f (i + a) b c ys zs ws e g rest in
+      (lined_front f i xs (ys ++ (zs ++ ws)) h, parts.0, parts.1, parts.2)
+
   pub lined_all : (zs xs : List ℕ) (i : ℕ) → ((q : ℕ) → slice_index_or zs (i + q) 0 ≡ slice_index_or xs q 0)
       → Lined (λ k. slice_index_or zs k 0) i xs
   lined_all zs [] i h = tt
@@ -131,6 +87,14 @@ module _ (nv nd : ℕ) where
   pub replicate_first : (f : ℕ → ℕ) (i n m : ℕ) → 0 < n → Lined f i (replicate n m) → f i ≡ m
   replicate_first f i zero m h l = absurd (omega arith)
   replicate_first f i (suc n) m h l = l.0
+
+  -- those of a step, and of what is behind it
+  pub lined_step : (f : ℕ → ℕ) (i n m : ℕ) (ys : List ℕ) → 0 < n → Lined f i (replicate n m ++ ys)
+      → (f i ≡ m) × Lined f (i + n) ys
+  lined_step f i n m ys o h = (
+    replicate_first f i n m o (lined_front f i (replicate n m) ys h),
+    lined_back f i n (replicate n m) ys (length-replicate n m) h,
+  )
 
   pub atom_wide : (a : Atom) → 0 < atom_width nv nd a
   atom_wide ChoiceAtom = omega arith
@@ -159,71 +123,38 @@ module _ (nv nd : ℕ) where
   pub back : (f : ℕ → ℕ) (is : Items) (i : ℕ) → Lined f i (lines nv nd is) → remark f (number nv nd is i) ≡ is
   back f Done i h = refl
   back f (Do a m is) i h =
-      ap (λ k. Do a k (remark f (number nv nd is (i + act_width nv nd a))))
-      (replicate_first f i (act_width nv nd a) m (omega arith)
-      (lined_front f i (replicate (act_width nv nd a) m) (lines nv nd is) h))
-      ∙ ap (Do a m)
-      (back f is (i + act_width nv nd a)
-      (lined_back f i (act_width nv nd a) (replicate (act_width nv nd a) m) (lines nv nd is)
-      (length-replicate (act_width nv nd a) m) h))
+      let l = lined_step f i (act_width nv nd a) m (lines nv nd is) (omega arith) h in
+      ap (λ k. Do a k (remark f (number nv nd is (i + act_width nv nd a)))) l.0 ∙ ap (Do a m) (back f is _ l.1)
   back f (Close ps ds m is) i h = ap (λ k. Close ps ds k (remark f (number nv nd is (i + 1)))) h.0
       ∙ ap (Close ps ds m) (back f is (i + 1) h.1)
   back f (If c x y is) i h =
-      let h1 = lined_back f i (test_width nv nd c) (test_lines nv nd c)
-      (lines nv nd x ++ (lines nv nd y ++ lines nv nd is)) (test_lines_length c) h in
-      let h2 = lined_back f (i + test_width nv nd c) (width nv nd x) (lines nv nd x) (lines nv nd y ++ lines nv nd is)
-      (lines_length x) h1 in
-      let h3 = lined_back f (i + test_width nv nd c + width nv nd x) (width nv nd y) (lines nv nd y) (lines nv nd is)
-      (lines_length y) h2 in
-      loop_same If _ c _ x _ y _ is (test_back f c i (lined_front f i _ _ h)) (back f x _ (lined_front f _ _ _ h1))
-      (back f y _ (lined_front f _ _ _ h2)) (back f is _ h3)
+      let l = lined_four f i _ _ _ (test_lines nv nd c) (lines nv nd x) (lines nv nd y) (lines nv nd is)
+      (test_lines_length c) (lines_length x) (lines_length y) h in
+      loop_same If _ c _ x _ y _ is (test_back f c i l.0) (back f x _ l.1) (back f y _ l.2) (back f is _ l.3)
   back f (Loop c n b is) i h =
-      let h1 = lined_back f i (test_width nv nd c) (test_lines nv nd c)
-      (lines nv nd b ++ (lines nv nd n ++ lines nv nd is)) (test_lines_length c) h in
-      let h2 = lined_back f (i + test_width nv nd c) (width nv nd b) (lines nv nd b) (lines nv nd n ++ lines nv nd is)
-      (lines_length b) h1 in
-      let h3 = lined_back f (i + test_width nv nd c + width nv nd b) (width nv nd n) (lines nv nd n) (lines nv nd is)
-      (lines_length n) h2 in
-      loop_same Loop _ c _ n _ b _ is (test_back f c i (lined_front f i _ _ h)) (back f n _ (lined_front f _ _ _ h2))
-      (back f b _ (lined_front f _ _ _ h1)) (back f is _ h3)
+      let l = lined_four f i _ _ _ (test_lines nv nd c) (lines nv nd b) (lines nv nd n) (lines nv nd is)
+      (test_lines_length c) (lines_length b) (lines_length n) h in
+      loop_same Loop _ c _ n _ b _ is (test_back f c i l.0) (back f n _ l.2) (back f b _ l.1) (back f is _ l.3)
   back f (Again c n b is) i h =
-      let h1 = lined_back f i (width nv nd n) (lines nv nd n) (test_lines nv nd c ++ (lines nv nd b ++ lines nv nd is))
-      (lines_length n) h in
-      let h2 = lined_back f (i + width nv nd n) (test_width nv nd c) (test_lines nv nd c)
-      (lines nv nd b ++ lines nv nd is) (test_lines_length c) h1 in
-      let h3 = lined_back f (i + width nv nd n + test_width nv nd c) (width nv nd b) (lines nv nd b) (lines nv nd is)
-      (lines_length b) h2 in
-      loop_same Again _ c _ n _ b _ is (test_back f c _ (lined_front f _ _ _ h1)) (back f n _ (lined_front f _ _ _ h))
-      (back f b _ (lined_front f _ _ _ h2)) (back f is _ h3)
+      let l = lined_four f i _ _ _ (lines nv nd n) (test_lines nv nd c) (lines nv nd b) (lines nv nd is)
+      (lines_length n) (test_lines_length c) (lines_length b) h in
+      loop_same Again _ c _ n _ b _ is (test_back f c _ l.1) (back f n _ l.0) (back f b _ l.2) (back f is _ l.3)
   back f (DoLoop c b is) i h =
-      let h1 = lined_back f i (width nv nd b) (lines nv nd b) (test_lines nv nd c ++ lines nv nd is) (lines_length b) h
-      in
-      let h2 = lined_back f (i + width nv nd b) (test_width nv nd c) (test_lines nv nd c) (lines nv nd is)
-      (test_lines_length c) h1 in
-      loop_same (λ c n b is. DoLoop c b is) _ c Done Done _ b _ is (test_back f c _ (lined_front f _ _ _ h1)) refl
-      (back f b _ (lined_front f _ _ _ h)) (back f is _ h2)
-  back f (DoAgain c b is) i h =
-      let h1 = lined_back f i (test_width nv nd c) (test_lines nv nd c) (lines nv nd b ++ lines nv nd is)
+      let l = lined_three f i _ _ (lines nv nd b) (test_lines nv nd c) (lines nv nd is) (lines_length b)
       (test_lines_length c) h in
-      let h2 = lined_back f (i + test_width nv nd c) (width nv nd b) (lines nv nd b) (lines nv nd is) (lines_length b)
-      h1 in
-      loop_same (λ c n b is. DoAgain c b is) _ c Done Done _ b _ is (test_back f c _ (lined_front f _ _ _ h)) refl
-      (back f b _ (lined_front f _ _ _ h1)) (back f is _ h2)
+      loop_same (λ c n b is. DoLoop c b is) _ c Done Done _ b _ is (test_back f c _ l.1) refl (back f b _ l.0)
+      (back f is _ l.2)
+  back f (DoAgain c b is) i h =
+      let l = lined_three f i _ _ (test_lines nv nd c) (lines nv nd b) (lines nv nd is) (test_lines_length c)
+      (lines_length b) h in
+      loop_same (λ c n b is. DoAgain c b is) _ c Done Done _ b _ is (test_back f c _ l.0) refl (back f b _ l.1)
+      (back f is _ l.2)
   back f (Enter vs ws m is) i h =
-      let w = enter_width nv nd vs ws in
-      ap (λ k. Enter vs ws k (remark f (number nv nd is (i + w))))
-      (replicate_first f i w m (omega arith) (lined_front f i (replicate w m) (lines nv nd is) h))
-      ∙ ap (Enter vs ws m)
-      (back f is (i + w) (lined_back f i w (replicate w m) (lines nv nd is) (length-replicate w m) h))
+      let w = enter_width nv nd vs ws in let l = lined_step f i w m (lines nv nd is) (omega arith) h in
+      ap (λ k. Enter vs ws k (remark f (number nv nd is (i + w)))) l.0 ∙ ap (Enter vs ws m) (back f is _ l.1)
   back f (Leave v vs a m is) i h =
-      let w = leave_width nv nd v vs a in
-      ap (λ k. Leave v vs a k (remark f (number nv nd is (i + w))))
-      (replicate_first f i w m (omega arith) (lined_front f i (replicate w m) (lines nv nd is) h))
-      ∙ ap (Leave v vs a m)
-      (back f is (i + w) (lined_back f i w (replicate w m) (lines nv nd is) (length-replicate w m) h))
+      let w = leave_width nv nd v vs a in let l = lined_step f i w m (lines nv nd is) (omega arith) h in
+      ap (λ k. Leave v vs a k (remark f (number nv nd is (i + w)))) l.0 ∙ ap (Leave v vs a m) (back f is _ l.1)
   back f (Exit v vs d m is) i h =
-      let w = exit_width nv nd v vs d in
-      ap (λ k. Exit v vs d k (remark f (number nv nd is (i + w))))
-      (replicate_first f i w m (omega arith) (lined_front f i (replicate w m) (lines nv nd is) h))
-      ∙ ap (Exit v vs d m)
-      (back f is (i + w) (lined_back f i w (replicate w m) (lines nv nd is) (length-replicate w m) h))
+      let w = exit_width nv nd v vs d in let l = lined_step f i w m (lines nv nd is) (omega arith) h in
+      ap (λ k. Exit v vs d k (remark f (number nv nd is (i + w)))) l.0 ∙ ap (Exit v vs d m) (back f is _ l.1)

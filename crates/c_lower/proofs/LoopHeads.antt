@@ -8,6 +8,7 @@ use Rattle.c_cfg.specs.Places.{heads}
 use Rattle.c_lower.specs.inner.Numbering.{act_width, test_width, width, number_test, number, loc}
 use Rattle.c_lower.specs.inner.Numbering.{enter_width, leave_width, exit_width}
 use Rattle.c_lower.specs.inner.Emitting.{head_numbers}
+use Rattle.c_lower.proofs.Joined.{assoc3}
 use Rattle.c_lower.proofs.Standing.{IsWhole}
 use Rattle.c_lower.proofs.Stacking.{loc_ask}
 
@@ -62,19 +63,13 @@ module _ (nv nd : ℕ) where
       let i1 = i + test_width nv nd c in let i2 = i1 + width nv nd x in let i3 = i2 + width nv nd y in
       ap (λ ks. head_numbers nv nd x i1 ++ (head_numbers nv nd y i2 ++ ks))
       (heads_then n is p.2 d i3 j (omega (arith, e)))
-      ∙ three (head_numbers nv nd x i1) (head_numbers nv nd y i2) (head_numbers nv nd is i3) (head_numbers nv nd d j)
-    where
-      three : (xs ys zs ws : List ℕ) → xs ++ (ys ++ (zs ++ ws)) ≡ (xs ++ (ys ++ zs)) ++ ws
-      three xs ys zs ws = ap (λ q. xs ++ q) (sym (append_assoc ys zs ws)) ∙ sym (append_assoc xs (ys ++ zs) ws)
+      ∙ assoc3 (head_numbers nv nd x i1) (head_numbers nv nd y i2) (head_numbers nv nd is i3) (head_numbers nv nd d j)
   heads_then l (Loop c n b is) p d i j e =
       let i1 = i + test_width nv nd c in let i2 = i1 + width nv nd b in let i3 = i2 + width nv nd n in
       ap (λ ks. i ∷ head_numbers nv nd b i1 ++ (head_numbers nv nd n i2 ++ ks))
       (heads_then l is p.2 d i3 j (omega (arith, e)))
-      ∙ three (i ∷ head_numbers nv nd b i1) (head_numbers nv nd n i2) (head_numbers nv nd is i3)
+      ∙ assoc3 (i ∷ head_numbers nv nd b i1) (head_numbers nv nd n i2) (head_numbers nv nd is i3)
       (head_numbers nv nd d j)
-    where
-      three : (xs ys zs ws : List ℕ) → xs ++ (ys ++ (zs ++ ws)) ≡ (xs ++ (ys ++ zs)) ++ ws
-      three xs ys zs ws = ap (λ q. xs ++ q) (sym (append_assoc ys zs ws)) ∙ sym (append_assoc xs (ys ++ zs) ws)
   heads_then n (DoLoop c b is) p d i j e =
       let i1 = i + width nv nd b in let i2 = i1 + test_width nv nd c in
       ap (λ ks. i1 ∷ head_numbers nv nd b i ++ ks) (heads_then n is p.1 d i2 j (omega (arith, e)))

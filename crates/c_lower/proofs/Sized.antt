@@ -3,6 +3,7 @@
 use Rattle.std.proofs.Common.{◌≡◌, ℕ, zero, suc, ◌+◌, ◌<◌, List, [], ◌∷◌, ◌++◌, length, refl, sym, ap, ◌∙◌, arith}
 use Rattle.std.proofs.Common.{Option, Some, None, slice_get}
 use Rattle.std.specs.Prelude.{pred}
+use Rattle.std.proofs.lemmas.List.{length-append}
 use Rattle.c_types.specs.declared.program.Path.{Path}
 use Rattle.c_types.specs.declared.program.DataPath.{DataPath}
 use Rattle.c_types.specs.declared.program.DataPath.TheVariants.{Var as DataVar, Field as DataField}
@@ -44,10 +45,6 @@ use Rattle.c_lower.specs.inner.Sizes.{atom_size}
 
 -- Parts
 
-more_long : (xs ys : List Link) → length (xs ++ ys) ≡ length xs + length ys
-more_long [] ys = omega arith
-more_long (x ∷ xs) ys = let e = more_long xs ys in omega (arith, e)
-
 loads_long : (t b : ℕ) (fs : List ℕ) → length (loads t b fs) ≡ length fs
 loads_long t b [] = refl
 loads_long t b (f ∷ fs) = ap suc (loads_long t t fs)
@@ -59,6 +56,9 @@ last_long t b f (g ∷ gs) last = let e = last_long t t g gs last in omega (arit
 end_used : (n : ℕ) → 0 < n → end_size n ≡ 1
 end_used zero h = absurd (omega (arith, h))
 end_used (suc n) h = refl
+
+end_some : (n m : ℕ) → end_size (n + 1 + m) ≡ 1
+end_some n m = end_used (n + 1 + m) (omega arith)
 
 -- the end of reads of one path, of two paths, and where a temporary is used in any case
 one_end : (t : ℕ) (fs : List ℕ) → length (ends (used t fs) []) ≡ end_size (length fs)
@@ -76,13 +76,13 @@ some_end (p ∷ ps) d ds = refl
 
 data_long : (t d : ℕ) (q : DataPath) → length (data_loads t d q) ≡ read_size q
 data_long t d (DataVar x) = refl
-data_long t d (DataField base f) = more_long (loads t base.var base.fields) _
+data_long t d (DataField base f) = length-append (loads t base.var base.fields) _
     ∙ ap (λ n. n + 1) (loads_long t base.var base.fields)
 
 -- reads but the last of a path, and an end, with what stands before
 but_last_step : (n : ℕ) (t b f : ℕ) (fs : List ℕ) (last : ℕ → ℕ → Instr) (es : List Link) (m : ℕ) → length es ≡ m
     → n + length (loads_but_last t b f fs last ++ es) ≡ n + length fs + 1 + m
-but_last_step n t b f fs last es m h = let e = more_long (loads_but_last t b f fs last) es in
+but_last_step n t b f fs last es m h = let e = length-append (loads_but_last t b f fs last) es in
     let l = last_long t b f fs last in omega (arith, e, l, h)
 
 module _ (nv nd : ℕ) where
@@ -103,7 +103,7 @@ module _ (nv nd : ℕ) where
   field_long : (x f : ℕ) (fs : List ℕ) (from : PtrRhs) → length (path_row nv nd x f fs from)
       ≡ field_size (length fs) from
   field_long x f fs (RhsPath q) =
-      let e = more_long (loads nv q.var q.fields)
+      let e = length-append (loads nv q.var q.fields)
       (loads_but_last (nv + 1) x f fs (λ c g. StorePtr c g (holder nv q.var q.fields))
       ++ ends (used nv q.fields ++ used (nv + 1) fs) []) in
       let l = loads_long nv q.var q.fields in
@@ -127,7 +127,7 @@ module _ (nv nd : ℕ) where
   data_var_long : (x : ℕ) (from : DataRhs) → length (data_var_row nv nd x from) ≡ data_var_size from
   data_var_long x (DataRhsPath (DataVar y)) = refl
   data_var_long x (DataRhsPath (DataField base f)) =
-      let e = more_long (data_loads nv x (DataField base f)) (ends (used nv base.fields) []) in let l =
+      let e = length-append (data_loads nv x (DataField base f)) (ends (used nv base.fields) []) in let l =
       data_long nv x (DataField base f) in let u = one_end nv base.fields in omega (arith, e, l, u)
   data_var_long x (DataRhsKnown k) = refl
   data_var_long x DataRhsChoice = refl
@@ -135,7 +135,7 @@ module _ (nv nd : ℕ) where
   -- the reads of the left base, the store, and the end
   store_long : (base : Path) (i : Instr) (es : List Link) (m : ℕ) → length es ≡ m
       → length (loads (nv + 1) base.var base.fields ++ One i ∷ es) ≡ length base.fields + 1 + m
-  store_long base i es m h = let e = more_long (loads (nv + 1) base.var base.fields) (One i ∷ es) in
+  store_long base i es m h = let e = length-append (loads (nv + 1) base.var base.fields) (One i ∷ es) in
       let l = loads_long (nv + 1) base.var base.fields in omega (arith, e, l, h)
 
   data_field_long : (base : Path) (f : ℕ) (from : DataRhs) → length (data_field_row nv nd base f from)
@@ -148,15 +148,12 @@ module _ (nv nd : ℕ) where
   data_field_long base f (DataRhsPath (DataField b g)) =
       let i = StoreData (holder (nv + 1) base.var base.fields) f nd in
       let es = ends (used nv b.fields ++ used (nv + 1) base.fields) (nd ∷ []) in
-      let e = more_long (data_loads nv nd (DataField b g)) (loads (nv + 1) base.var base.fields ++ One i ∷ es) in
+      let e = length-append (data_loads nv nd (DataField b g)) (loads (nv + 1) base.var base.fields ++ One i ∷ es) in
       let l = data_long nv nd (DataField b g) in
       let r = store_long base i es 1 (some_end (used nv b.fields ++ used (nv + 1) base.fields) nd []) in
       let u : end_size (length b.fields + 1 + length base.fields) ≡ 1 =
-      end_one (length b.fields) (length base.fields) in
+      end_some (length b.fields) (length base.fields) in
       omega (arith, e, l, r, u)
-    where
-      end_one : (n m : ℕ) → end_size (n + 1 + m) ≡ 1
-      end_one n m = let e : n + 1 + m ≡ suc (n + m) = omega arith in rw e refl
   data_field_long base f (DataRhsKnown k) =
       let e = store_long base (StoreConst (holder (nv + 1) base.var base.fields) f (ConstKnown k))
       (ends (used (nv + 1) base.fields) []) (end_size (length base.fields)) (one_end (nv + 1) base.fields) in
@@ -173,7 +170,8 @@ module _ (nv nd : ℕ) where
 
   return_long : (operand : Option DataPath) → length (return_row nv nd operand) ≡ return_size operand
   return_long None = refl
-  return_long (Some q) = let e = more_long (data_loads nv nd q) (One (Kill (below (nv + 2)) (below (nd + 2))) ∷ []) in
+  return_long (Some q) =
+      let e = length-append (data_loads nv nd q) (One (Kill (below (nv + 2)) (below (nd + 2))) ∷ []) in
       let l = data_long nv nd q in omega (arith, e, l)
 
   full : (ls : List Link) → Filled ls → suc (pred (length ls)) ≡ length ls
@@ -196,7 +194,7 @@ module _ (nv nd : ℕ) where
     act-sized (SetPtr to from) = alone (SetPtr to from) _ (ptr_long to.var to.fields from)
     act-sized (SetData to from) = alone (SetData to from) _ (data_set_long to from)
     act-sized (FreeAct q) =
-        let e = more_long (loads nv q.var q.fields)
+        let e = length-append (loads nv q.var q.fields)
         (One (Free (holder nv q.var q.fields)) ∷ ends (used nv q.fields) []) in let l = loads_long nv q.var q.fields in
         let u = one_end nv q.fields in alone (FreeAct q) _ (omega (arith, e, l, u))
     act-sized Error = refl
@@ -232,11 +230,8 @@ module _ (nv nd : ℕ) where
   ptr_end OpNull (OpPath r) = both_ends nv (nv + 1) [] r.fields
   ptr_end OpNull OpNull = refl
 
-  end_some : (n m : ℕ) → end_size (n + 1 + m) ≡ 1
-  end_some n m = let e : n + 1 + m ≡ suc (n + m) = omega arith in rw e refl
-
   end_last : (n m : ℕ) → end_size (m + (n + 1)) ≡ 1
-  end_last n m = let e : m + (n + 1) ≡ suc (m + n) = omega arith in rw e refl
+  end_last n m = end_used (m + (n + 1)) (omega arith)
 
   data_end : (l r : DataOp)
       → length (ends (op_base_used nv l ++ op_base_used (nv + 1) r) (op_data_used nd l ++ op_data_used (nd + 1) r))
@@ -257,11 +252,11 @@ module _ (nv nd : ℕ) where
   atom-sized ChoiceAtom = refl
   atom-sized (KnownAtom b) = refl
   atom-sized (PtrAtom l r e) =
-      let loads_are = more_long (op_loads nv l) (op_loads (nv + 1) r) in let left = op_long nv l in let right =
+      let loads_are = length-append (op_loads nv l) (op_loads (nv + 1) r) in let left = op_long nv l in let right =
       op_long (nv + 1) r in let end = ptr_end l r in
       omega (arith, loads_are, left, right, end)
   atom-sized (DataAtom l r e) =
-      let loads_are = more_long (data_op_loads nv nd l) (data_op_loads (nv + 1) (nd + 1) r) in let left =
+      let loads_are = length-append (data_op_loads nv nd l) (data_op_loads (nv + 1) (nd + 1) r) in let left =
       data_op_long nv nd l in let right = data_op_long (nv + 1) (nd + 1) r in let end = data_end l r in
       omega (arith, loads_are, left, right, end)
 

@@ -27,32 +27,26 @@ abbrev pub first_of : ℕ → ℕ → ℕ → ℕ
 first_of zero i k = k
 first_of (suc w) i k = i
 
--- the variables that die in items up to the first Again, or up to their end, where these die then
+-- The variables that die in items up to the first Again, or up to their end, where these die then: of the pointer and
+-- the data variables of a block those that `own` picks.
+abbrev pub dying : (List ℕ → List ℕ → List ℕ) → Items → List ℕ → List ℕ
+dying own Done base = base
+dying own (Do a m is) base = dying own is base
+dying own (Close ps ds m is) base = merged (own ps ds) (dying own is base)
+dying own (If c x y is) base = dying own is base
+dying own (Loop c n b is) base = dying own is base
+dying own (Again c n b is) base = []
+dying own (DoLoop c b is) base = dying own is base
+dying own (DoAgain c b is) base = []
+dying own (Enter vs ws m is) base = dying own is base
+dying own (Leave v vs a m is) base = dying own is base
+dying own (Exit v vs d m is) base = dying own is base
+
 abbrev pub ptrs_of : Items → List ℕ → List ℕ
-ptrs_of Done base = base
-ptrs_of (Do a m is) base = ptrs_of is base
-ptrs_of (Close ps ds m is) base = merged ps (ptrs_of is base)
-ptrs_of (If c x y is) base = ptrs_of is base
-ptrs_of (Loop c n b is) base = ptrs_of is base
-ptrs_of (Again c n b is) base = []
-ptrs_of (DoLoop c b is) base = ptrs_of is base
-ptrs_of (DoAgain c b is) base = []
-ptrs_of (Enter vs ws m is) base = ptrs_of is base
-ptrs_of (Leave v vs a m is) base = ptrs_of is base
-ptrs_of (Exit v vs d m is) base = ptrs_of is base
+ptrs_of is base = dying (λ ps ds. ps) is base
 
 abbrev pub datums_of : Items → List ℕ → List ℕ
-datums_of Done base = base
-datums_of (Do a m is) base = datums_of is base
-datums_of (Close ps ds m is) base = merged ds (datums_of is base)
-datums_of (If c x y is) base = datums_of is base
-datums_of (Loop c n b is) base = datums_of is base
-datums_of (Again c n b is) base = []
-datums_of (DoLoop c b is) base = datums_of is base
-datums_of (DoAgain c b is) base = []
-datums_of (Enter vs ws m is) base = datums_of is base
-datums_of (Leave v vs a m is) base = datums_of is base
-datums_of (Exit v vs d m is) base = datums_of is base
+datums_of is base = dying (λ ps ds. ds) is base
 
 -- what is around a part that stands before these items, where each call that begins in them ends in them
 abbrev pub inside : Around → Items → Around
