@@ -79,31 +79,27 @@ module _ (f : ℕ → ℕ) where
   remark_open (Leave v vs a m is) r o = ap (Leave v vs a (f m)) (remark_then is r)
   remark_open (Exit v vs d m is) r o = ap (Exit v vs d (f m)) (remark_then is r)
 
+  -- the end of a round, and which variables die with it
+  remark_round : (is : Items) → (after_again (remark f is) ≡ remark f (after_again is))
+      × (from_again (remark f is) ≡ remark f (from_again is))
+      × (closed_ptrs (remark f is) ≡ closed_ptrs is) × (closed_datums (remark f is) ≡ closed_datums is)
+  remark_round Done = (refl, refl, refl, refl)
+  remark_round (Do a m is) = remark_round is
+  remark_round (Close ps ds m is) = let h = remark_round is in (h.0, h.1, ap (merged ps) h.2, ap (merged ds) h.3)
+  remark_round (If c x y is) = remark_round is
+  remark_round (Loop c n b is) = remark_round is
+  remark_round (Again c n b is) = (refl, refl, refl, refl)
+  remark_round (DoLoop c b is) = remark_round is
+  remark_round (DoAgain c b is) = (refl, refl, refl, refl)
+  remark_round (Enter vs ws m is) = remark_round is
+  remark_round (Leave v vs a m is) = remark_round is
+  remark_round (Exit v vs d m is) = remark_round is
+
   pub remark_after : (is : Items) → after_again (remark f is) ≡ remark f (after_again is)
-  remark_after Done = refl
-  remark_after (Do a m is) = remark_after is
-  remark_after (Close ps ds m is) = remark_after is
-  remark_after (If c x y is) = remark_after is
-  remark_after (Loop c n b is) = remark_after is
-  remark_after (Again c n b is) = refl
-  remark_after (DoLoop c b is) = remark_after is
-  remark_after (DoAgain c b is) = refl
-  remark_after (Enter vs ws m is) = remark_after is
-  remark_after (Leave v vs a m is) = remark_after is
-  remark_after (Exit v vs d m is) = remark_after is
+  remark_after is = (remark_round is).0
 
   pub remark_from : (is : Items) → from_again (remark f is) ≡ remark f (from_again is)
-  remark_from Done = refl
-  remark_from (Do a m is) = remark_from is
-  remark_from (Close ps ds m is) = remark_from is
-  remark_from (If c x y is) = remark_from is
-  remark_from (Loop c n b is) = remark_from is
-  remark_from (Again c n b is) = refl
-  remark_from (DoLoop c b is) = remark_from is
-  remark_from (DoAgain c b is) = refl
-  remark_from (Enter vs ws m is) = remark_from is
-  remark_from (Leave v vs a m is) = remark_from is
-  remark_from (Exit v vs d m is) = remark_from is
+  remark_from is = (remark_round is).1
 
   remark_exit_after : (n : ℕ) (is : Items) → exit_after n (remark f is) ≡ remark f (exit_after n is)
   remark_exit_after n Done = refl
@@ -121,32 +117,6 @@ module _ (f : ℕ → ℕ) where
 
   remark_exit : (is : Items) → from_exit (remark f is) ≡ remark f (from_exit is)
   remark_exit is = remark_exit_after 0 is
-
-  remark_ptrs : (is : Items) → closed_ptrs (remark f is) ≡ closed_ptrs is
-  remark_ptrs Done = refl
-  remark_ptrs (Do a m is) = remark_ptrs is
-  remark_ptrs (Close ps ds m is) = ap (merged ps) (remark_ptrs is)
-  remark_ptrs (If c x y is) = remark_ptrs is
-  remark_ptrs (Loop c n b is) = remark_ptrs is
-  remark_ptrs (Again c n b is) = refl
-  remark_ptrs (DoLoop c b is) = remark_ptrs is
-  remark_ptrs (DoAgain c b is) = refl
-  remark_ptrs (Enter vs ws m is) = remark_ptrs is
-  remark_ptrs (Leave v vs a m is) = remark_ptrs is
-  remark_ptrs (Exit v vs d m is) = remark_ptrs is
-
-  remark_datums : (is : Items) → closed_datums (remark f is) ≡ closed_datums is
-  remark_datums Done = refl
-  remark_datums (Do a m is) = remark_datums is
-  remark_datums (Close ps ds m is) = ap (merged ds) (remark_datums is)
-  remark_datums (If c x y is) = remark_datums is
-  remark_datums (Loop c n b is) = remark_datums is
-  remark_datums (Again c n b is) = refl
-  remark_datums (DoLoop c b is) = remark_datums is
-  remark_datums (DoAgain c b is) = refl
-  remark_datums (Enter vs ws m is) = remark_datums is
-  remark_datums (Leave v vs a m is) = remark_datums is
-  remark_datums (Exit v vs d m is) = remark_datums is
 
   -- Steps
 
@@ -195,6 +165,15 @@ module _ (f : ℕ → ℕ) where
     test_same (Ok true) x y is s = settle_same s (x then is) (remark f x then remark f is) (sym (remark_then x is))
     test_same (Ok false) x y is s = settle_same s (y then is) (remark f y then remark f is) (sym (remark_then y is))
 
+    -- the end of a round that goes on with these items
+    round_same : (is js ks : Items) (s : Store) → ks ≡ remark f js
+        → after_turn (settle (kill (closed_ptrs (remark f is)) (closed_datums (remark f is)) s) ks) line step next
+        ≡ after_turn (settle (kill (closed_ptrs is) (closed_datums is) s) js) line step other
+    round_same is js ks s e =
+        ap (λ ps. after_turn (settle (kill ps (closed_datums (remark f is)) s) ks) line step next) (remark_round is).2
+        ∙ ap (λ ds. after_turn (settle (kill (closed_ptrs is) ds s) ks) line step next) (remark_round is).3
+        ∙ settle_same (kill (closed_ptrs is) (closed_datums is) s) js ks e
+
     act_same : (shapes : List Shape) (mode : MallocMode) (a : Act) (is : Items) (s : Store) (x : ℕ)
         → after_turn (act_turn shapes mode a (remark f is) s x) line step next
         ≡ after_turn (act_turn shapes mode a is s x) line step other
@@ -205,22 +184,8 @@ module _ (f : ℕ → ℕ) where
     act_same shapes mode Halt is s x = refl
     act_same shapes mode (LeaveAct g value) is s x = refl
     act_same shapes mode (Return operand) is s x = finished_same (look_at s operand)
-    act_same shapes mode Break is s x =
-        ap
-        (λ ps. after_turn (settle (kill ps (closed_datums (remark f is)) s) (after_again (remark f is))) line step
-        next) (remark_ptrs is)
-        ∙ ap (λ ds. after_turn (settle (kill (closed_ptrs is) ds s) (after_again (remark f is))) line step next)
-        (remark_datums is)
-        ∙ settle_same (kill (closed_ptrs is) (closed_datums is) s) (after_again is) (after_again (remark f is))
-        (remark_after is)
-    act_same shapes mode Continue is s x =
-        ap
-        (λ ps. after_turn (settle (kill ps (closed_datums (remark f is)) s) (from_again (remark f is))) line step
-        next) (remark_ptrs is)
-        ∙ ap (λ ds. after_turn (settle (kill (closed_ptrs is) ds s) (from_again (remark f is))) line step next)
-        (remark_datums is)
-        ∙ settle_same (kill (closed_ptrs is) (closed_datums is) s) (from_again is) (from_again (remark f is))
-        (remark_from is)
+    act_same shapes mode Break is s x = round_same is (after_again is) (after_again (remark f is)) s (remark_after is)
+    act_same shapes mode Continue is s x = round_same is (from_again is) (from_again (remark f is)) s (remark_from is)
 
   module _ (shapes : List Shape) (mode : MallocMode) where
     advance_same : (next other : ℕ → Items → Store → List ℕ → ℕ → Outcome)

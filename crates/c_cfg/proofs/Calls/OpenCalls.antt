@@ -6,6 +6,7 @@ use Rattle.c_types.specs.Control.{Items, Done, Do, Close, If, Loop, Again, DoLoo
 use Rattle.c_types.specs.Control.{Either, Enter, Leave, Exit, ◌then◌, ask, after_again, from_again, exit_after}
 use Rattle.c_cfg.specs.Places.{remark}
 use Rattle.c_types.proofs.Standing.{then_then}
+use Rattle.c_types.proofs.Turns.{then_done}
 
 -- n calls are still to come
 abbrev pub open_vars : ℕ → Items → List VarRef
@@ -64,20 +65,6 @@ exit_open (suc n) (Exit v vs d m is) = exit_open n is
 
 -- marks have no bearing
 
-pub open_remark : (f : ℕ → ℕ) (n : ℕ) (is : Items) → open_vars n (remark f is) ≡ open_vars n is
-open_remark f n Done = refl
-open_remark f n (Do a m is) = open_remark f n is
-open_remark f n (Close ps ds m is) = open_remark f n is
-open_remark f n (If c x y is) = open_remark f n is
-open_remark f n (Loop c k b is) = open_remark f n is
-open_remark f n (Again c k b is) = open_remark f n is
-open_remark f n (DoLoop c b is) = open_remark f n is
-open_remark f n (DoAgain c b is) = open_remark f n is
-open_remark f n (Enter vs ws m is) = open_remark f (suc n) is
-open_remark f n (Leave v vs a m is) = open_remark f n is
-open_remark f zero (Exit v vs d m is) = ap (λ us. vs ++ us) (open_remark f zero is)
-open_remark f (suc n) (Exit v vs d m is) = open_remark f n is
-
 open_before : (f : ℕ → ℕ) (is r : Items) (n : ℕ) → open_vars n (remark f is then r) ≡ open_vars n (is then r)
 open_before f Done r n = refl
 open_before f (Do a m is) r n = open_before f is r n
@@ -91,6 +78,10 @@ open_before f (Enter vs ws m is) r n = open_before f is r (suc n)
 open_before f (Leave v vs a m is) r n = open_before f is r n
 open_before f (Exit v vs d m is) r zero = ap (λ us. vs ++ us) (open_before f is r zero)
 open_before f (Exit v vs d m is) r (suc n) = open_before f is r n
+
+pub open_remark : (f : ℕ → ℕ) (n : ℕ) (is : Items) → open_vars n (remark f is) ≡ open_vars n is
+open_remark f n is = ap (open_vars n) (sym (then_done (remark f is))) ∙ open_before f is Done n
+    ∙ ap (open_vars n) (then_done is)
 
 pub closed_unmarked : (f : ℕ → ℕ) (b : Items) → Closed (remark f b) → Closed b
 closed_unmarked f b h n r = sym (open_before f b r n) ∙ h n r
