@@ -1,10 +1,10 @@
 -- Worked values of what decides sound forests with box edges, each made by hand.
-use Rattle.std.proofs.Common.{◌≡◌, ◌<◌, inl, inr, ℕ, true, false, List, [], ◌∷◌, Option, Some, None, refl, ap, arith}
+use Rattle.std.proofs.Common.{◌≡◌, inl, inr, ℕ, true, false, List, [], ◌∷◌, Option, Some, None, refl, ap, arith}
 use Rattle.ta_core.specs.Auto.{Automaton, automaton}
 use Rattle.ta_core.specs.declared.auto.Rule.{Rule}
 use Rattle.ta_core.specs.declared.symbol.Slot.TheVariants.{Field, Link, Hook}
 use Rattle.ta_core.specs.declared.symbol.Symbol.{Symbol}
-use Rattle.ta_core.specs.declared.symbol.Symbol.TheVariants.{Null, Ref, Cell}
+use Rattle.ta_core.specs.declared.symbol.Symbol.TheVariants.{Ref, Cell}
 use Rattle.fa_core.specs.declared.faces.BoxFace.{BoxFace}
 use Rattle.fa_core.specs.declared.signature.Below.{Below}
 use Rattle.fa_core.specs.declared.signature.RefMark.{RefMark}

@@ -1,7 +1,7 @@
 -- Without box edges each cell of a well-formed forest has the fields of its struct in order, and its references are to
 -- roots that are there; and the order of the roots is that of a walk along references alone.
 use Rattle.std.proofs.Common.{◌≡◌, inl, inr, ℕ, zero, suc, List, [], ◌∷◌, ◌++◌, map, flat_map, length, refl, sym}
-use Rattle.std.proofs.Common.{ap, ap₂, subst, ◌∙◌, arith}
+use Rattle.std.proofs.Common.{ap, ap₂, subst, ◌∙◌}
 use Rattle.fore_base.specs.Lists.{Every, IsDistinct}
 use Rattle.fore_base.proofs.ListLemmas.{every_parts}
 use Rattle.ta_core.specs.declared.tree.Tree.{Tree}
