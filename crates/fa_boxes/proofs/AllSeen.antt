@@ -268,7 +268,8 @@ module _ (bs : List BoxFace) (rules : List Rule) (table : List (Option Seen)) (w
           → IsBetween (below_at false table q) (below_of bs t) (below_at true table q)
       between_run {q} {t} (run r i e s rs) m = between_of q t (entry table q) refl
           (subst (λ (n : ℕ). shows (is_leaf (out-Tree t).symbol) (entry table n) ≡ true) e
-          (subst (λ (y : Symbol). shows (is_leaf y) (entry table r.state) ≡ true) s (kind_there r i (known_each rules table known rs)))) m
+          (subst (λ (y : Symbol). shows (is_leaf y) (entry table r.state) ≡ true) s
+          (kind_there r i (known_each rules table known rs)))) m
 
       between_each : {qs : List ℕ} {ts : List Tree} → RunEach rules qs ts
           → AreBetween (map (below_at false table) qs) (map (below_of bs) ts) (map (below_at true table) qs)
