@@ -3,7 +3,6 @@ pub mod FieldsOpened
 pub mod FreedCells
 pub mod FreedChild
 pub mod Keeping
-pub mod Needing
 pub mod NulledFields
 pub mod OpenedForests
 pub mod OpenedRefines

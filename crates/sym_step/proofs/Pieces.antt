@@ -7,11 +7,9 @@ use Rattle.fore_base.proofs.ListLemmas.{in_left, in_right, in_append, every_in, 
 use Rattle.ta_core.specs.Auto.{Automaton, IsRanked, IsRankedRule}
 use Rattle.ta_core.specs.Single.{HasOneTop}
 use Rattle.ta_core.specs.declared.auto.Rule.{Rule}
-use Rattle.ta_core.specs.declared.symbol.Symbol.{Symbol}
 use Rattle.fa_core.specs.declared.forest.Forest.{Forest}
 use Rattle.fa_core.specs.declared.forest.Target.{Target}
 use Rattle.fa_core.specs.declared.forest.Target.TheVariants.{At}
-use Rattle.fa_core.specs.Folding.{symbol_slots}
 use Rattle.fa_merge.specs.Reordered.{component_at}
 use Rattle.fa_merge.proofs.MergedAnywhere.{nat_cases}
 use Rattle.fa_merge.proofs.PlacedForests.{component_has}
@@ -19,7 +17,7 @@ use Rattle.fa_split.specs.Split.{CanSplit, top_rule, child_state, fresh_leaf, fi
 use Rattle.fa_split.proofs.FixedTrees.{both, two_cases, fixed_one, fixed_top}
 use Rattle.fa_split.proofs.OtherComponent.{component_set, component_other, component_first, set_less}
 use Rattle.fa_split.proofs.TopRules.{top_in}
-use Rattle.fa_edit.specs.Plain.{field_place, place_at, IsOnlyLeaf, IsLeafPlace}
+use Rattle.fa_edit.specs.Plain.{IsOnlyLeaf, IsLeafPlace}
 use Rattle.sym_step.specs.inner.Opening.{width}
 
 -- An automaton with a leaf fixed at place p.
@@ -143,9 +141,6 @@ module _ (F : Forest) (r p : ℕ) (ranked : Every IsRanked F.autos) (can : CanSp
     pub width_there : width G r ≡ width F r
     width_there = ap (λ (c : Automaton). length (top_rule c).children) piece.here
         ∙ width_stays a p y a_ranked can.top can.place
-
-    pub place_there : (f : ℕ) → place_at G r f ≡ place_at F r f
-    place_there f = ap (λ (x : Symbol). field_place f (symbol_slots x)) symbol_there
 
     pub leaf_there : IsLeafPlace G r p y
     leaf_there = subst (λ (c : Automaton). IsOnlyLeaf c.rules (child_state c p) y) (sym piece.here)

@@ -3,7 +3,7 @@ use Rattle.std.proofs.Common.{◌≡◌, ◌⊎◌, inl, inr, ℕ, zero, suc, �
 use Rattle.std.proofs.Common.{◌∙◌, None, slice_index_or, arith}
 use Rattle.fore_base.specs.Lists.{IsIn, Every}
 use Rattle.fore_base.specs.declared.shape.Shape.{Shape}
-use Rattle.ta_core.specs.Auto.{Automaton, IsRanked}
+use Rattle.ta_core.specs.Auto.{IsRanked}
 use Rattle.ta_core.specs.Single.{HasOneTop}
 use Rattle.ta_core.specs.declared.symbol.Symbol.{Symbol}
 use Rattle.fa_core.specs.declared.forest.Forest.{Forest}
@@ -50,10 +50,6 @@ below_next (suc k) (suc p) l =
     elim (below_next k p (omega (arith, l))) [ inl e ↦ inl (ap (λ (n : ℕ). suc n) e) | inr m ↦ inr (omega (arith, m)) ]
 
 module _ (hs : List Shape) (F : Forest) (well : RefersWell F) (tops : Every HasOneTop F.autos) where
-  -- the root of a variable is there
-  pub root_there : (b r : ℕ) → target_at F b ≡ At r → r < length F.autos
-  root_there b r h = well.vars r (target_in F.vars b r h)
-
   var_tops : (r : ℕ) → IsIn (At r) F.vars → HasOneTop (component_at F.autos r)
   var_tops r i = component_has HasOneTop F.autos r tops (well.vars r i)
 

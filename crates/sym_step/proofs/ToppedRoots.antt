@@ -1,9 +1,9 @@
 -- One rule chosen at roots of variables.
-use Rattle.std.proofs.Common.{◌≡◌, ◌≢◌, ◌⊎◌, inl, inr, ℕ, ◌+◌, ◌<◌, Bool, true, false, nat_eq, List, [], ◌∷◌, ◌++◌}
+use Rattle.std.proofs.Common.{◌≡◌, ◌≢◌, ◌⊎◌, inl, inr, ℕ, ◌+◌, ◌<◌, Bool, true, false, nat_eq, List, [], ◌∷◌}
 use Rattle.std.proofs.Common.{length, refl, sym, ap, subst, ◌∙◌, true≢false, arith, length-set}
 use Rattle.std.proofs.lemmas.Bool.{eqb-true, eq-eqb}
 use Rattle.fore_base.specs.Lists.{IsIn, Every}
-use Rattle.fore_base.proofs.ListLemmas.{every_in, every_weaker, in_every, in_left, in_map, in_mapped, in_right}
+use Rattle.fore_base.proofs.ListLemmas.{every_in, every_weaker, in_every, in_map, in_mapped}
 use Rattle.ta_core.specs.Single.{HasOneTop}
 use Rattle.fa_core.specs.Boxless.{HasNoBoxes}
 use Rattle.fa_core.specs.Member.{Regroups, RegroupsInto}
@@ -16,9 +16,9 @@ use Rattle.fa_sound.specs.Soundness.{SoundForest}
 use Rattle.fa_split.specs.Chosen.{IsChosenOf, chosen}
 use Rattle.fa_split.specs.Divided.{forests, HasVarsOf}
 use Rattle.fa_split.proofs.OtherComponent.{component_other}
-use Rattle.fa_split.proofs.Steps.{forests_both}
+use Rattle.fa_opening.specs.Each.{OfSome}
 use Rattle.fa_opening.specs.Opened.{StaysPlain}
-use Rattle.sym_step.specs.inner.Topping.{IsChoosing, IsToppedAt, IsTopped, OfSome}
+use Rattle.sym_step.specs.inner.Topping.{IsChoosing, IsToppedAt, IsTopped}
 
 same_or_not : (j r : ℕ) → (j ≡ r) ⊎ (j ≢ r)
 same_or_not j r = here (nat_eq j r) refl
@@ -104,15 +104,6 @@ tops_last n k l parts ss a =
     every_weaker (OfSome (IsTopped n) parts) (OfSome (IsTopped k) parts) ss
     (λ s h. (h.0, h.1, topped_fewer n k l h.0 s h.2)) a
 
-pub some_more : (R : SoundForest → SoundForest → Type 0) (parts more made : List SoundForest)
-    → ((S : SoundForest) → IsIn S parts → IsIn S more) → Every (OfSome R parts) made → Every (OfSome R more) made
-some_more R parts more made g h =
-    every_weaker (OfSome R parts) (OfSome R more) made (λ s k. (k.0, g k.0 k.1, k.2)) h
-
-pub some_of : (R : SoundForest → SoundForest → Type 0) (parts : List SoundForest) (S : SoundForest) → IsIn S parts
-    → (made : List SoundForest) → Every (R S) made → Every (OfSome R parts) made
-some_of R parts S i made h = every_weaker (R S) (OfSome R parts) made (λ s k. (S, i, k)) h
-
 -- One forest.
 
 pub stays_topped : (r : ℕ) (S : SoundForest) → (IsIn (At r) S.forest.vars → HasOneTop (component_at S.forest.autos r))
@@ -157,29 +148,11 @@ each_topped S r none (s ∷ ss) a b p c d e = (
   each_topped S r none ss a.1 b.1 (λ plain. (p plain).1) c.1 (λ T. (d T).1) (λ T. (e T).1),
 )
 
-pub alone_topped : (r : ℕ) (S : SoundForest) (made : List SoundForest) → made ≡ S ∷ []
-    → (IsIn (At r) S.forest.vars → HasOneTop (component_at S.forest.autos r)) → Every (IsToppedAt r S) made
-alone_topped r S made e h = subst (Every (IsToppedAt r S)) (sym e) (stays_topped r S h, tt)
+pub alone_topped : (r : ℕ) (S : SoundForest) (made : List SoundForest) → made ≡ S ∷ [] → IsToppedAt r S S
+    → Every (IsToppedAt r S) made
+alone_topped r S made e h = subst (Every (IsToppedAt r S)) (sym e) (h, tt)
 
 pub alone_into : (S : SoundForest) (made : List SoundForest) → made ≡ S ∷ [] → (T : List BoxDef)
     → RegroupsInto T S.forest (forests made)
 alone_into S made e T = subst (λ (ss : List SoundForest). RegroupsInto T S.forest (forests ss)) (sym e)
     (into_itself (S ∷ []) S (inl refl) T)
-
--- Two lists.
-
-in_more_left : (xs ys : List SoundForest) (G : Forest) → IsIn G (forests xs) → IsIn G (forests (xs ++ ys))
-in_more_left xs ys G i = subst (λ (Hs : List Forest). IsIn G Hs) (sym (forests_both xs ys))
-    (in_left G (forests xs) (forests ys) i)
-
-in_more_right : (xs ys : List SoundForest) (G : Forest) → IsIn G (forests ys) → IsIn G (forests (xs ++ ys))
-in_more_right xs ys G i = subst (λ (Hs : List Forest). IsIn G Hs) (sym (forests_both xs ys))
-    (in_right G (forests xs) (forests ys) i)
-
-pub into_left : (T : List BoxDef) (F : Forest) (xs ys : List SoundForest) → RegroupsInto T F (forests xs)
-    → RegroupsInto T F (forests (xs ++ ys))
-into_left T F xs ys a d h = let w = a d h in (w.0, in_more_left xs ys w.0 w.1, w.2)
-
-pub into_right : (T : List BoxDef) (F : Forest) (xs ys : List SoundForest) → RegroupsInto T F (forests ys)
-    → RegroupsInto T F (forests (xs ++ ys))
-into_right T F xs ys a d h = let w = a d h in (w.0, in_more_right xs ys w.0 w.1, w.2)

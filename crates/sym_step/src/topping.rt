@@ -1,16 +1,17 @@
 // One rule chosen at each root at which a variable is.
 
-ghost use Rattle.std.specs.Prelude.{List, IfOk, IsTrue};
+ghost use Rattle.std.specs.Prelude.{◌≡◌, ◌<◌, false, List, length, IfOk, IsTrue};
 ghost use Rattle.fore_base.specs.Lists.{IsIn, Every};
 ghost use Rattle.ta_core.specs.Single.{HasOneTop};
 ghost use Rattle.fa_core.specs.Member.{RegroupsInto};
 ghost use Rattle.fa_core.specs.declared.boxes.BoxDef.{BoxDef};
-ghost use Rattle.fa_core.specs.declared.forest.Target.TheVariants.{At};
 ghost use Rattle.fa_sound.specs.Components.{component_at};
 ghost use Rattle.fa_sound.specs.Soundness.{SoundForest};
 ghost use Rattle.fa_split.specs.Divided.{forests};
-ghost use Rattle.sym_step.specs.inner.Topping.{IsTopped, IsToppedAt, OfSome};
+ghost use Rattle.fa_opening.specs.Each.{OfSome};
+ghost use Rattle.sym_step.specs.inner.Topping.{IsTopped, IsToppedAt};
 
+use fa_opening::applying::{Step, as_it_is, on_each};
 use fa_sound::{Sound, component};
 use fa_split::choose_rule;
 use fore_base::list::List;
@@ -42,7 +43,7 @@ fn top_all(alloc: Global, parts: List<Sound>, root: u32) -> Mem<List<Sound>>
     if are_topped(parts.as_slice(), root) {
         return Ok(parts);
     }
-    top_each(alloc, parts.as_slice(), root)
+    on_each(alloc, &Top { root }, parts.as_slice())
 }
 
 /// Whether each of the forests has one rule at the root, or no such root.
@@ -60,7 +61,9 @@ fn are_topped(parts: &[Sound], root: u32) -> bool
 
 /// Whether the forest has one rule at the root, or no such root.
 fn is_topped(part: &Sound, root: u32) -> bool
-    ensures { IsTrue result → IsToppedAt root part.now part.now }
+    ensures topped { IsTrue result → IsToppedAt root part.now part.now }
+    ensures other { result ≡ false → (root < length part.now.forest.autos)
+        × (HasOneTop (component_at part.now.forest.autos root) → ⊥) }
 {
     part.known();
     if (root as usize) >= part.forest().autos.len() {
@@ -69,42 +72,31 @@ fn is_topped(part: &Sound, root: u32) -> bool
     has_one_top(component(part.forest(), root))
 }
 
-/// The forests with each choice of one rule at the root.
-fn top_each(alloc: Global, parts: &[Sound], root: u32) -> Mem<List<Sound>>
-    ensures each { IfOk result (Every (OfSome (IsToppedAt root) parts.now)) }
-    ensures whole { IfOk result (λ made. (S : SoundForest) → IsIn S parts.now
-        → (T : List BoxDef) → RegroupsInto T S.forest (forests made)) }
-{
-    let mut made = List::new(alloc);
-    for part in parts {
-        let more = top_part(alloc, part, root)?;
-        made.append(more)?;
-    }
-    Ok(made)
+/// Each choice of one rule at the root, where there are several.
+#[derive(Drop)]
+struct Top {
+    root: u32,
 }
 
-fn top_part(alloc: Global, part: &Sound, root: u32) -> Mem<List<Sound>>
-    ensures each { IfOk result (Every (IsToppedAt root part.now)) }
-    ensures whole { IfOk result (λ made. (T : List BoxDef) → RegroupsInto T part.now.forest (forests made)) }
-{
-    part.known();
-    if (root as usize) >= part.forest().autos.len() {
-        return stay(alloc, part, root);
-    }
-    if has_one_top(component(part.forest(), root)) {
-        return stay(alloc, part, root);
-    }
-    let made = choose_rule(alloc, part, root)?;
-    Ok(made)
-}
+impl Step for Top {
+    ghost use Rattle.std.specs.Prelude.{List};
+    ghost use Rattle.fa_core.specs.Member.{RegroupsInto};
+    ghost use Rattle.fa_core.specs.declared.boxes.BoxDef.{BoxDef};
+    ghost use Rattle.sym_step.specs.inner.Topping.{IsToppedAt};
 
-/// The forest as it is.
-fn stay(alloc: Global, part: &Sound, _root: u32) -> Mem<List<Sound>>
-    requires { IsIn (At _root) part.now.forest.vars → HasOneTop (component_at part.now.forest.autos _root) }
-    ensures each { IfOk result (Every (IsToppedAt _root part.now)) }
-    ensures whole { IfOk result (λ made. (T : List BoxDef) → RegroupsInto T part.now.forest (forests made)) }
-{
-    let mut made = List::new(alloc);
-    made.push(part.copy(alloc)?)?;
-    Ok(made)
+    ghost accepts = { λ step S. Unit {0} };
+
+    ghost relates = { λ step. IsToppedAt step.root };
+
+    ghost goes_into = { λ step S Gs. (T : List BoxDef) → RegroupsInto T S.forest Gs };
+
+    ghost goes_on = { λ step S Gs Hs more k T d h. let w = k T d h in (w.0, more w.0 w.1, w.2) };
+
+    fn apply(&self, alloc: Global, part: &Sound) -> Mem<List<Sound>> {
+        if is_topped(part, self.root) {
+            return as_it_is(alloc, part);
+        }
+        let made = choose_rule(alloc, part, self.root)?;
+        Ok(made)
+    }
 }

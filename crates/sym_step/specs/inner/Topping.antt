@@ -30,7 +30,3 @@ pub record IsToppedAt (r : ℕ) (S s : SoundForest) : Type 0 where
 pub record IsTopped (n : ℕ) (S s : SoundForest) : Type 0 where
   pub chosen : IsChoosing S s
   pub tops : (r : ℕ) → r < n → IsIn (At r) S.forest.vars → HasOneTop (component_at s.forest.autos r)
-
--- the relation holds of s and some forest of the list
-abbrev pub OfSome : (SoundForest → SoundForest → Type 0) → List SoundForest → SoundForest → Type 0
-OfSome R parts s = (S : SoundForest) × IsIn S parts × R S s
