@@ -7,7 +7,7 @@ ghost use Rattle.c_edges.specs.inner.Counted.{data_links, data_var_links, data_f
 use crate::operands::{datum_holder, load_datum, note_base, note_datum};
 use c_cfg::graph::{Const, DataArg, Instr};
 use c_cfg::link::Link;
-use c_links::arrows::{add, end_with, holder, load_all, note_used};
+use c_links::arrows::{add, end_used, end_with, holder, load_all, note_used};
 use c_links::counts::Counts;
 use c_types::program::{DataPath, DataRhs, Path};
 use fore_base::list::List;
@@ -80,9 +80,7 @@ fn copy_datum(
         DataPath::Field { base, .. } => {
             let temp = counts.first_ptr();
             load_datum(links, temp, to, path)?;
-            let mut ptrs = List::new(alloc);
-            note_used(&mut ptrs, temp, base.fields.as_slice())?;
-            end_with(links, ptrs, List::new(alloc))
+            end_used(alloc, links, temp, base.fields.as_slice())
         }
     }
 }
@@ -163,9 +161,7 @@ fn store_number(
             value: Const::Known(number),
         },
     )?;
-    let mut ptrs = List::new(alloc);
-    note_used(&mut ptrs, temp, fields)?;
-    end_with(links, ptrs, List::new(alloc))
+    end_used(alloc, links, temp, fields)
 }
 
 fn store_choice(

@@ -6,7 +6,7 @@ ghost use Rattle.c_edges.specs.Calling.{with_ptr, with_datum, dead_links};
 use c_cfg::graph::Instr;
 use c_cfg::link::Link;
 use c_links::arrows::add;
-use c_links::rising::inserted;
+use c_links::rising::insert;
 use c_types::program::VarRef;
 use fore_base::list::List;
 use fore_base::memory::Mem;
@@ -22,82 +22,46 @@ pub fn end_vars(
 ) -> Mem<()>
     ensures { OnOk result (links.new ≡ links.old ++ dead_links first.now vars.now temps) }
 {
-    let mut ptrs = ptrs_of(alloc, first, vars)?;
-    let datums = datums_of(alloc, first, vars)?;
+    let (mut ptrs, datums) = all_dying(alloc, first, vars)?;
     ptrs.append(temps)?;
     add(links, Instr::Kill { ptrs, datums })
 }
 
-/// The pointer variables, rising.
+/// The pointer and the data variables, rising, with the first.
 #[tactic(auto, using(crate::proofs::Called::dying))]
-fn ptrs_of(alloc: Global, first: &Option<VarRef>, vars: &[VarRef]) -> Mem<List<u32>>
-    ensures { IfOk result (λ list. list ≡ ptr_vars (with_result first.now vars.now)) }
+fn all_dying(alloc: Global, first: &Option<VarRef>, vars: &[VarRef]) -> Mem<(List<u32>, List<u32>)>
+    ensures ptrs { IfOk result (λ made. made.0 ≡ ptr_vars (with_result first.now vars.now)) }
+    ensures datums { IfOk result (λ made. made.1 ≡ datum_vars (with_result first.now vars.now)) }
 {
-    let mut list = all_ptrs(alloc, vars)?;
+    let (mut ptrs, mut datums) = dying(alloc, vars)?;
     if let Some(var) = first {
-        add_ptr(alloc, &mut list, var)?;
-        return Ok(list);
+        add_var(alloc, &mut ptrs, &mut datums, var)?;
+        return Ok((ptrs, datums));
     }
-    Ok(list)
+    Ok((ptrs, datums))
 }
 
+/// The pointer and the data variables, rising.
 #[tactic(auto, using(crate::proofs::Called::dying))]
-fn all_ptrs(alloc: Global, vars: &[VarRef]) -> Mem<List<u32>>
-    ensures { IfOk result (λ list. list ≡ ptr_vars vars.now) }
+fn dying(alloc: Global, vars: &[VarRef]) -> Mem<(List<u32>, List<u32>)>
+    ensures ptrs { IfOk result (λ made. made.0 ≡ ptr_vars vars.now) }
+    ensures datums { IfOk result (λ made. made.1 ≡ datum_vars vars.now) }
 {
-    let mut list = List::new(alloc);
+    let mut ptrs = List::new(alloc);
+    let mut datums = List::new(alloc);
     for at in (0..vars.len()).rev() {
-        add_ptr(alloc, &mut list, &vars[at])?;
+        add_var(alloc, &mut ptrs, &mut datums, &vars[at])?;
     }
-    Ok(list)
+    Ok((ptrs, datums))
 }
 
-fn add_ptr(alloc: Global, list: &mut List<u32>, var: &VarRef) -> Mem<()>
-    ensures { OnOk result (list.new ≡ with_ptr var.now list.old) }
+/// Adds a variable to those of its kind.
+fn add_var(alloc: Global, ptrs: &mut List<u32>, datums: &mut List<u32>, var: &VarRef) -> Mem<()>
+    ensures ptrs { OnOk result (ptrs.new ≡ with_ptr var.now ptrs.old) }
+    ensures datums { OnOk result (datums.new ≡ with_datum var.now datums.old) }
 {
     match var {
-        VarRef::Ptr(number) => {
-            let longer = inserted(alloc, list.as_slice(), *number)?;
-            *list = longer;
-            Ok(())
-        }
-        VarRef::Data(_) => Ok(()),
-    }
-}
-
-/// The data variables, rising.
-#[tactic(auto, using(crate::proofs::Called::dying))]
-fn datums_of(alloc: Global, first: &Option<VarRef>, vars: &[VarRef]) -> Mem<List<u32>>
-    ensures { IfOk result (λ list. list ≡ datum_vars (with_result first.now vars.now)) }
-{
-    let mut list = all_datums(alloc, vars)?;
-    if let Some(var) = first {
-        add_datum(alloc, &mut list, var)?;
-        return Ok(list);
-    }
-    Ok(list)
-}
-
-#[tactic(auto, using(crate::proofs::Called::dying))]
-fn all_datums(alloc: Global, vars: &[VarRef]) -> Mem<List<u32>>
-    ensures { IfOk result (λ list. list ≡ datum_vars vars.now) }
-{
-    let mut list = List::new(alloc);
-    for at in (0..vars.len()).rev() {
-        add_datum(alloc, &mut list, &vars[at])?;
-    }
-    Ok(list)
-}
-
-fn add_datum(alloc: Global, list: &mut List<u32>, var: &VarRef) -> Mem<()>
-    ensures { OnOk result (list.new ≡ with_datum var.now list.old) }
-{
-    match var {
-        VarRef::Ptr(_) => Ok(()),
-        VarRef::Data(number) => {
-            let longer = inserted(alloc, list.as_slice(), *number)?;
-            *list = longer;
-            Ok(())
-        }
+        VarRef::Ptr(number) => insert(alloc, ptrs, *number),
+        VarRef::Data(number) => insert(alloc, datums, *number),
     }
 }

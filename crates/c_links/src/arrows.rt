@@ -150,3 +150,12 @@ pub fn end_with(links: &mut List<Link>, ptrs: List<u32>, datums: List<u32>) -> M
     }
     add(links, Instr::Kill { ptrs, datums })
 }
+
+/// Lets the temporary die, if reading these arrows used it.
+pub fn end_used(alloc: Global, links: &mut List<Link>, temp: u32, fields: &[u32]) -> Mem<()>
+    ensures { OnOk result (links.new ≡ links.old ++ ends (used temp fields.now) []) }
+{
+    let mut ptrs = List::new(alloc);
+    note_used(&mut ptrs, temp, fields)?;
+    end_with(links, ptrs, List::new(alloc))
+}

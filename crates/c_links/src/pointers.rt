@@ -5,7 +5,7 @@ ghost use Rattle.c_cfg.specs.Links.{ptr_row, free_row};
 ghost use Rattle.c_links.specs.inner.Counted.{var_links, field_links};
 
 use crate::arrows::{
-    LastArrow, add, end_with, holder, load_all, load_but_last, note_used, used_by_both,
+    LastArrow, add, end_used, end_with, holder, load_all, load_but_last, note_used, used_by_both,
 };
 use crate::counts::Counts;
 use c_cfg::graph::{Instr, PtrArg};
@@ -75,9 +75,7 @@ fn copy_path(
             let temp = counts.first_ptr();
             let last = LastArrow::LoadTo(to);
             load_but_last(links, temp, path.var, *first, others, last)?;
-            let mut ptrs = List::new(alloc);
-            note_used(&mut ptrs, temp, others)?;
-            end_with(links, ptrs, List::new(alloc))
+            end_used(alloc, links, temp, others)
         }
     }
 }
@@ -132,9 +130,7 @@ fn store_null(
 {
     let temp = counts.second_ptr();
     load_but_last(links, temp, var, first, others, LastArrow::StoreNull)?;
-    let mut ptrs = List::new(alloc);
-    note_used(&mut ptrs, temp, others)?;
-    end_with(links, ptrs, List::new(alloc))
+    end_used(alloc, links, temp, others)
 }
 
 fn store_new(
@@ -171,7 +167,5 @@ pub fn free(alloc: Global, links: &mut List<Link>, counts: &Counts, path: &Path)
             from: holder(temp, path.var, fields),
         },
     )?;
-    let mut ptrs = List::new(alloc);
-    note_used(&mut ptrs, temp, fields)?;
-    end_with(links, ptrs, List::new(alloc))
+    end_used(alloc, links, temp, fields)
 }
