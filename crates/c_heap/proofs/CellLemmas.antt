@@ -54,85 +54,109 @@ found_get : (n : ℕ) {cs : List CellRec} {i : ℕ} {c : CellRec} (d : CellRec) 
 found_get n d (first is) = refl
 found_get n d (further is at) = found_get n d at
 
--- Fields
+-- What is looked up in the cell of a number: `out` is what stands in it, and `away` what is had where there is none.
+module _ {X : Type 0} (n : ℕ) (out : CellRec → X) (away : X) (look : List CellRec → X) (ends : look [] ≡ away)
+    (goes : (c : CellRec) (cs : List CellRec) → look (c ∷ cs) ≡ if nat_eq c.number n then out c else look cs) where
+  found_look : {cs : List CellRec} {i : ℕ} {c : CellRec} → FoundAt n cs i c → look cs ≡ out c
+  found_look (first {c} {cs} is) = goes c cs ∙ rw is refl
+  found_look (further {b} {c} {cs} {i} is at) = goes b cs ∙ rw is (found_look at)
 
-found_field : (n f : ℕ) {cs : List CellRec} {i : ℕ} {c : CellRec} → FoundAt n cs i c → field_in cs n f
-    ≡ slice_index_or c.fields f Uninit
-found_field n f (first is) = rw is refl
-found_field n f (further is at) = rw is (found_field n f at)
+  absent_look : {cs : List CellRec} → Absent n cs → look cs ≡ away
+  absent_look none = ends
+  absent_look (other {b} {cs} is apart) = goes b cs ∙ rw is (absent_look apart)
+
+  pub look_some : (i : ℕ) (cs : List CellRec) (d : CellRec) → Position n cs (Some i) → look cs ≡ out (get_or cs i d)
+  look_some i cs d (found c at) = found_look at ∙ ap out (sym (found_get n d at))
+
+  pub look_none : (cs : List CellRec) → Position n cs None → look cs ≡ away
+  look_none cs (missing apart) = absent_look apart
+
+-- What is written into the cell of a number: `own` is the cell with it.
+module _ (n : ℕ) (own : CellRec → CellRec) (write : List CellRec → List CellRec) (ends : write [] ≡ [])
+    (goes : (c : CellRec) (cs : List CellRec)
+    → write (c ∷ cs) ≡ if nat_eq c.number n then own c ∷ cs else c ∷ write cs) where
+  found_write : {cs : List CellRec} {i : ℕ} {c : CellRec} → FoundAt n cs i c → write cs ≡ slice_set cs i (own c)
+  found_write (first {c} {cs} is) = goes c cs ∙ rw is refl
+  found_write (further {b} {c} {cs} {i} is at) =
+      goes b cs ∙ rw is (ap (λ (xs : List CellRec). b ∷ xs) (found_write at))
+
+  absent_write : {cs : List CellRec} → Absent n cs → write cs ≡ cs
+  absent_write none = ends
+  absent_write (other {b} {cs} is apart) = goes b cs ∙ rw is (ap (λ (xs : List CellRec). b ∷ xs) (absent_write apart))
+
+  write_some : (i : ℕ) (cs : List CellRec) (d : CellRec) → Position n cs (Some i) → write cs
+      ≡ slice_set cs i (own (get_or cs i d))
+  write_some i cs d (found c at) = found_write at
+      ∙ ap (λ (x : CellRec). slice_set cs i (own x)) (sym (found_get n d at))
+
+  write_none : (cs : List CellRec) → Position n cs None → write cs ≡ cs
+  write_none cs (missing apart) = absent_write apart
+
+  -- numbers keep rising
+  rises_write : ((c : CellRec) → (own c).number ≡ c.number) → (low : ℕ) (cs : List CellRec) → CellsRiseFrom low cs
+      → CellsRiseFrom low (write cs)
+  rises_write same low [] h = subst (CellsRiseFrom low) (sym ends) tt
+  rises_write same low (c ∷ cs) h = subst (CellsRiseFrom low) (sym (goes c cs))
+      (here (nat_eq c.number n) (rises_write same (suc c.number) cs h.1))
+    where
+      here : (b : Bool) → CellsRiseFrom (suc c.number) (write cs)
+          → CellsRiseFrom low (if b then own c ∷ cs else c ∷ write cs)
+      here true rest = subst (λ k. (low ≤ k) × CellsRiseFrom (suc k) cs) (sym (same c)) h
+      here false rest = (h.0, rest)
+
+-- Fields
 
 pub field_some : (n f i : ℕ) (cs : List CellRec) (d : CellRec) → Position n cs (Some i) → field_in cs n f
     ≡ slice_index_or (get_or cs i d).fields f Uninit
-field_some n f i cs d (found c at) = found_field n f at
-    ∙ ap (λ (x : CellRec). slice_index_or x.fields f Uninit) (sym (found_get n d at))
-
-absent_field : (n f : ℕ) {cs : List CellRec} → Absent n cs → field_in cs n f ≡ Uninit
-absent_field n f none = refl
-absent_field n f (other is apart) = rw is (absent_field n f apart)
+field_some n f = look_some n (λ (c : CellRec). slice_index_or c.fields f Uninit) Uninit
+    (λ (cs : List CellRec). field_in cs n f) refl (λ c cs. refl)
 
 pub field_none : (n f : ℕ) (cs : List CellRec) → Position n cs None → field_in cs n f ≡ Uninit
-field_none n f cs (missing apart) = absent_field n f apart
+field_none n f = look_none n (λ (c : CellRec). slice_index_or c.fields f Uninit) Uninit
+    (λ (cs : List CellRec). field_in cs n f) refl (λ c cs. refl)
 
 abbrev pub with_at : CellRec → ℕ → Value → CellRec
 with_at c f v = record c { fields = slice_set c.fields f v }
 
-found_with : (n f : ℕ) (v : Value) {cs : List CellRec} {i : ℕ} {c : CellRec} → FoundAt n cs i c → with_field cs n f v
-    ≡ slice_set cs i (with_at c f v)
-found_with n f v (first is) = rw is refl
-found_with n f v (further {b} {c} {cs} {i} is at) = rw is (ap (λ (xs : List CellRec). b ∷ xs) (found_with n f v at))
-
 pub with_some : (n f i : ℕ) (v : Value) (cs : List CellRec) (d : CellRec) → Position n cs (Some i) → with_field cs n f v
     ≡ slice_set cs i (with_at (get_or cs i d) f v)
-with_some n f i v cs d (found c at) = found_with n f v at
-    ∙ ap (λ (x : CellRec). slice_set cs i (with_at x f v)) (sym (found_get n d at))
-
-absent_with : (n f : ℕ) (v : Value) {cs : List CellRec} → Absent n cs → with_field cs n f v ≡ cs
-absent_with n f v none = refl
-absent_with n f v (other {b} is apart) = rw is (ap (λ (xs : List CellRec). b ∷ xs) (absent_with n f v apart))
+with_some n f i v = write_some n (λ c. with_at c f v) (λ (cs : List CellRec). with_field cs n f v) refl (λ c cs. refl) i
 
 pub with_none : (n f : ℕ) (v : Value) (cs : List CellRec) → Position n cs None → with_field cs n f v ≡ cs
-with_none n f v cs (missing apart) = absent_with n f v apart
+with_none n f v = write_none n (λ c. with_at c f v) (λ (cs : List CellRec). with_field cs n f v) refl (λ c cs. refl)
+
+pub rises_with : (n f : ℕ) (v : Value) (low : ℕ) (cs : List CellRec) → CellsRiseFrom low cs
+    → CellsRiseFrom low (with_field cs n f v)
+rises_with n f v = rises_write n (λ c. with_at c f v) (λ (cs : List CellRec). with_field cs n f v) refl (λ c cs. refl)
+    (λ c. refl)
 
 -- Data fields
 
-found_datum : (n f : ℕ) {cs : List CellRec} {i : ℕ} {c : CellRec} → FoundAt n cs i c → datum_in cs n f
-    ≡ slice_index_or c.datums f Undefined
-found_datum n f (first is) = rw is refl
-found_datum n f (further is at) = rw is (found_datum n f at)
-
 pub datum_some : (n f i : ℕ) (cs : List CellRec) (d : CellRec) → Position n cs (Some i) → datum_in cs n f
     ≡ slice_index_or (get_or cs i d).datums f Undefined
-datum_some n f i cs d (found c at) = found_datum n f at
-    ∙ ap (λ (x : CellRec). slice_index_or x.datums f Undefined) (sym (found_get n d at))
-
-absent_datum : (n f : ℕ) {cs : List CellRec} → Absent n cs → datum_in cs n f ≡ Undefined
-absent_datum n f none = refl
-absent_datum n f (other is apart) = rw is (absent_datum n f apart)
+datum_some n f = look_some n (λ (c : CellRec). slice_index_or c.datums f Undefined) Undefined
+    (λ (cs : List CellRec). datum_in cs n f) refl (λ c cs. refl)
 
 pub datum_none : (n f : ℕ) (cs : List CellRec) → Position n cs None → datum_in cs n f ≡ Undefined
-datum_none n f cs (missing apart) = absent_datum n f apart
+datum_none n f = look_none n (λ (c : CellRec). slice_index_or c.datums f Undefined) Undefined
+    (λ (cs : List CellRec). datum_in cs n f) refl (λ c cs. refl)
 
 abbrev pub with_datum_at : CellRec → ℕ → Datum → CellRec
 with_datum_at c f v = record c { datums = slice_set c.datums f v }
 
-found_with_datum : (n f : ℕ) (v : Datum) {cs : List CellRec} {i : ℕ} {c : CellRec} → FoundAt n cs i c
-    → with_datum cs n f v ≡ slice_set cs i (with_datum_at c f v)
-found_with_datum n f v (first is) = rw is refl
-found_with_datum n f v (further {b} {c} {cs} {i} is at) =
-    rw is (ap (λ (xs : List CellRec). b ∷ xs) (found_with_datum n f v at))
-
 pub with_datum_some : (n f i : ℕ) (v : Datum) (cs : List CellRec) (d : CellRec) → Position n cs (Some i)
     → with_datum cs n f v ≡ slice_set cs i (with_datum_at (get_or cs i d) f v)
-with_datum_some n f i v cs d (found c at) = found_with_datum n f v at
-    ∙ ap (λ (x : CellRec). slice_set cs i (with_datum_at x f v)) (sym (found_get n d at))
-
-absent_with_datum : (n f : ℕ) (v : Datum) {cs : List CellRec} → Absent n cs → with_datum cs n f v ≡ cs
-absent_with_datum n f v none = refl
-absent_with_datum n f v (other {b} is apart) =
-    rw is (ap (λ (xs : List CellRec). b ∷ xs) (absent_with_datum n f v apart))
+with_datum_some n f i v = write_some n (λ c. with_datum_at c f v) (λ (cs : List CellRec). with_datum cs n f v) refl
+    (λ c cs. refl) i
 
 pub with_datum_none : (n f : ℕ) (v : Datum) (cs : List CellRec) → Position n cs None → with_datum cs n f v ≡ cs
-with_datum_none n f v cs (missing apart) = absent_with_datum n f v apart
+with_datum_none n f v = write_none n (λ c. with_datum_at c f v) (λ (cs : List CellRec). with_datum cs n f v) refl
+    (λ c cs. refl)
+
+pub rises_with_datum : (n f : ℕ) (d : Datum) (low : ℕ) (cs : List CellRec) → CellsRiseFrom low cs
+    → CellsRiseFrom low (with_datum cs n f d)
+rises_with_datum n f d = rises_write n (λ c. with_datum_at c f d) (λ (cs : List CellRec). with_datum cs n f d) refl
+    (λ c cs. refl) (λ c. refl)
 
 -- The end of a cell
 
@@ -167,26 +191,6 @@ without_some n i cs h (found c at) = found_without n 0 h at
 rises_lower : (low high : ℕ) (cs : List CellRec) → low ≤ high → CellsRiseFrom high cs → CellsRiseFrom low cs
 rises_lower low high [] less h = tt
 rises_lower low high (c ∷ cs) less h = (omega (arith, h.0), h.1)
-
-pub rises_with : (n f : ℕ) (v : Value) (low : ℕ) (cs : List CellRec) → CellsRiseFrom low cs
-    → CellsRiseFrom low (with_field cs n f v)
-rises_with n f v low [] h = tt
-rises_with n f v low (c ∷ cs) h = here (nat_eq c.number n) (rises_with n f v (suc c.number) cs h.1)
-  where
-    here : (b : Bool) → CellsRiseFrom (suc c.number) (with_field cs n f v)
-        → CellsRiseFrom low (if b then record c { fields = slice_set c.fields f v } ∷ cs else c ∷ with_field cs n f v)
-    here true rest = h
-    here false rest = (h.0, rest)
-
-pub rises_with_datum : (n f : ℕ) (d : Datum) (low : ℕ) (cs : List CellRec) → CellsRiseFrom low cs
-    → CellsRiseFrom low (with_datum cs n f d)
-rises_with_datum n f d low [] h = tt
-rises_with_datum n f d low (c ∷ cs) h = here (nat_eq c.number n) (rises_with_datum n f d (suc c.number) cs h.1)
-  where
-    here : (b : Bool) → CellsRiseFrom (suc c.number) (with_datum cs n f d)
-        → CellsRiseFrom low (if b then record c { datums = slice_set c.datums f d } ∷ cs else c ∷ with_datum cs n f d)
-    here true rest = h
-    here false rest = (h.0, rest)
 
 pub rises_without : (n low : ℕ) (cs : List CellRec) → CellsRiseFrom low cs → CellsRiseFrom low (without n cs)
 rises_without n low [] h = tt
