@@ -174,9 +174,9 @@ pub fn place_behind(most: u32, block: &Block) -> Option<Place>
 pub fn statements_within(block: &Block) -> Mem<u32>
     ensures { IfOk result (λ n. n ≡ length (block_places block.now).within) }
 {
-    let count = passed_body(4294967295, block);
+    let count = passed_body(u32::MAX, block);
     match count.beyond {
         Some(_) => Err(AllocError),
-        None => Ok(4294967295 - count.left),
+        None => Ok(u32::MAX - count.left),
     }
 }
