@@ -16,60 +16,36 @@ use Rattle.c_cfg.specs.Graphs.{ControlGraph, has_choice}
 use Rattle.c_cfg.specs.Edges.{field_of, datum_field_of, struct_of, target_of}
 use Rattle.c_cfg.specs.GraphRuns.{out_of, unless_left, at_location, first_pass, leave, ggo, grun}
 use Rattle.c_walks.specs.inner.Outgoing.{asked, or_rest, rest_of}
-use Rattle.c_heap.proofs.CellLemmas.{FoundAt, first, further, Absent, none, other, Position, found, missing}
+use Rattle.c_heap.proofs.CellLemmas.{Position, look_some, look_none}
 
 -- The cell of a number
 
-got : (n : ℕ) {cs : List CellRec} {i : ℕ} {c : CellRec} (d : CellRec) → FoundAt n cs i c → get_or cs i d ≡ c
-got n d (first is) = refl
-got n d (further is at) = got n d at
-
-found_field : (n f : ℕ) {cs : List CellRec} {i : ℕ} {c : CellRec} → FoundAt n cs i c → field_of cs n f
-    ≡ slice_get c.fields f
-found_field n f (first is) = rw is refl
-found_field n f (further is at) = rw is (found_field n f at)
-
 pub field_some : (n f i : ℕ) (cs : List CellRec) (d : CellRec) → Position n cs (Some i) → field_of cs n f
     ≡ slice_get (get_or cs i d).fields f
-field_some n f i cs d (found c at) = found_field n f at ∙ ap (λ (x : CellRec). slice_get x.fields f) (sym (got n d at))
-
-absent_field : (n f : ℕ) {cs : List CellRec} → Absent n cs → field_of cs n f ≡ None
-absent_field n f none = refl
-absent_field n f (other is apart) = rw is (absent_field n f apart)
+field_some n f = look_some n (λ (c : CellRec). slice_get c.fields f) None (λ (cs : List CellRec). field_of cs n f) refl
+    (λ c cs. refl)
 
 pub field_none : (n f : ℕ) (cs : List CellRec) → Position n cs None → field_of cs n f ≡ None
-field_none n f cs (missing apart) = absent_field n f apart
-
-found_datum : (n f : ℕ) {cs : List CellRec} {i : ℕ} {c : CellRec} → FoundAt n cs i c → datum_field_of cs n f
-    ≡ slice_get c.datums f
-found_datum n f (first is) = rw is refl
-found_datum n f (further is at) = rw is (found_datum n f at)
+field_none n f = look_none n (λ (c : CellRec). slice_get c.fields f) None (λ (cs : List CellRec). field_of cs n f) refl
+    (λ c cs. refl)
 
 pub datum_some : (n f i : ℕ) (cs : List CellRec) (d : CellRec) → Position n cs (Some i) → datum_field_of cs n f
     ≡ slice_get (get_or cs i d).datums f
-datum_some n f i cs d (found c at) = found_datum n f at ∙ ap (λ (x : CellRec). slice_get x.datums f) (sym (got n d at))
-
-absent_datum : (n f : ℕ) {cs : List CellRec} → Absent n cs → datum_field_of cs n f ≡ None
-absent_datum n f none = refl
-absent_datum n f (other is apart) = rw is (absent_datum n f apart)
+datum_some n f = look_some n (λ (c : CellRec). slice_get c.datums f) None
+    (λ (cs : List CellRec). datum_field_of cs n f) refl (λ c cs. refl)
 
 pub datum_none : (n f : ℕ) (cs : List CellRec) → Position n cs None → datum_field_of cs n f ≡ None
-datum_none n f cs (missing apart) = absent_datum n f apart
-
-found_struct : (n : ℕ) {cs : List CellRec} {i : ℕ} {c : CellRec} → FoundAt n cs i c → struct_of cs n ≡ Some c.shape
-found_struct n (first is) = rw is refl
-found_struct n (further is at) = rw is (found_struct n at)
+datum_none n f = look_none n (λ (c : CellRec). slice_get c.datums f) None
+    (λ (cs : List CellRec). datum_field_of cs n f) refl (λ c cs. refl)
 
 pub struct_some : (n i : ℕ) (cs : List CellRec) (d : CellRec) → Position n cs (Some i)
     → struct_of cs n ≡ Some (get_or cs i d).shape
-struct_some n i cs d (found c at) = found_struct n at ∙ ap (λ (x : CellRec). Some x.shape) (sym (got n d at))
-
-absent_struct : (n : ℕ) {cs : List CellRec} → Absent n cs → struct_of cs n ≡ None
-absent_struct n none = refl
-absent_struct n (other is apart) = rw is (absent_struct n apart)
+struct_some n = look_some n (λ (c : CellRec). Some c.shape) None (λ (cs : List CellRec). struct_of cs n) refl
+    (λ c cs. refl)
 
 pub struct_none : (n : ℕ) (cs : List CellRec) → Position n cs None → struct_of cs n ≡ None
-struct_none n cs (missing apart) = absent_struct n apart
+struct_none n = look_none n (λ (c : CellRec). Some c.shape) None (λ (cs : List CellRec). struct_of cs n) refl
+    (λ c cs. refl)
 
 -- Items
 
