@@ -1,7 +1,7 @@
 -- What edges find in cells and structs.
 use Rattle.std.proofs.Common.{◌≡◌, ◌+◌, ℕ, suc, zero, ◌<◌, ◌≤◌, length, arith, slice_index_or, Bool}
 use Rattle.std.proofs.Common.{Option, Some, None, Result, Ok, Err, IfOk, List, [], ◌∷◌, drop, get_or, slice_get, refl}
-use Rattle.std.proofs.Common.{sym, ap, ◌∙◌}
+use Rattle.std.proofs.Common.{ap, ◌∙◌}
 use Rattle.std.proofs.lemmas.Option.{slice_get_past}
 use Rattle.fore_base.specs.declared.shape.Shape.{Shape}
 use Rattle.fore_base.specs.declared.store.CellRec.{CellRec}
