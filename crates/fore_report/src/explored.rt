@@ -1,10 +1,10 @@
 // The reports that print an exploration.
-ghost use Rattle.std.specs.Prelude.{◌≡◌, IfOk};
+ghost use Rattle.std.specs.Prelude.{◌≡◌, ◌++◌, IfOk};
 ghost use Rattle.c_cfg.specs.Lowering.{LowerOf};
 ghost use Rattle.fix_core.specs.Explorations.{AbstractTrace, Exploration};
 ghost use Rattle.fix_core.specs.Follows.{IsMember};
 ghost use Rattle.fore_report.specs.Reports.{explored_text};
-ghost use Rattle.fore_report.specs.Texts.{safe_text, budget_text, trace_text};
+ghost use Rattle.fore_report.specs.Texts.{trace_text};
 
 use crate::texts::put_trace;
 use c_cfg::graph::Graph;
@@ -19,9 +19,10 @@ use fore_explored::{put_exploration, put_last};
 use fore_words::Settings;
 use std::alloc::Global;
 
-/// The report that no run meets a fault, whole. Err is want of memory.
-pub fn safe_report(
+/// A report that has nothing but its first line and the exploration, whole. Err is want of memory.
+pub fn explored_report(
     alloc: Global,
+    first: &[u8],
     settings: Settings,
     nodes: &Nodes,
     table: &BoxTable,
@@ -32,41 +33,10 @@ pub fn safe_report(
     requires shapes { graph.now.shapes ≡ table.now.face.shapes }
     requires explored { Exploration table.now graph.now settings.height nodes.now }
     ensures { IfOk result (λ text.
-        text ≡ safe_text (explored_text table.now program.now graph.now settings nodes.now)) }
+        text ≡ first.now ++ explored_text table.now program.now graph.now settings nodes.now) }
 {
     let mut text = Text::new(alloc);
-    text.put(b"SAFE\n")?;
-    put_exploration(
-        alloc,
-        &mut text,
-        table,
-        program,
-        settings.malloc,
-        graph,
-        settings.height,
-        settings.budget,
-        nodes,
-    )?;
-    Ok(text)
-}
-
-/// The report that as many abstract states are kept as may be, whole. Err is want of memory.
-pub fn budget_report(
-    alloc: Global,
-    settings: Settings,
-    nodes: &Nodes,
-    table: &BoxTable,
-    graph: &Graph,
-    program: &Typed,
-) -> Mem<Text>
-    requires lowered { LowerOf program.now settings.malloc graph.now }
-    requires shapes { graph.now.shapes ≡ table.now.face.shapes }
-    requires explored { Exploration table.now graph.now settings.height nodes.now }
-    ensures { IfOk result (λ text.
-        text ≡ budget_text (explored_text table.now program.now graph.now settings nodes.now)) }
-{
-    let mut text = Text::new(alloc);
-    text.put(b"UNKNOWN budget\n")?;
+    text.put(first)?;
     put_exploration(
         alloc,
         &mut text,

@@ -12,7 +12,7 @@ ghost use Rattle.fore_report.specs.Reports.{
   IsReportOf,
 };
 
-use crate::explored::{budget_report, safe_report, trace_report};
+use crate::explored::{explored_report, trace_report};
 use crate::texts::unsafe_report;
 use crate::verdict::Verdict;
 use c_cfg::graph::Graph;
@@ -93,7 +93,7 @@ fn safe_of(
         settings.height settings.budget nodes.now }
     ensures { IfOk result (IsSafeReport table.now program.now graph.now settings nodes.now) }
 {
-    let text = safe_report(alloc, settings, nodes, table, graph, program)?;
+    let text = explored_report(alloc, b"SAFE\n", settings, nodes, table, graph, program)?;
     Ok(text)
 }
 
@@ -131,7 +131,15 @@ fn budget_of(
         settings.height settings.budget nodes.now }
     ensures { IfOk result (IsBudgetReport table.now program.now graph.now settings nodes.now) }
 {
-    let text = budget_report(alloc, settings, nodes, table, graph, program)?;
+    let text = explored_report(
+        alloc,
+        b"UNKNOWN budget\n",
+        settings,
+        nodes,
+        table,
+        graph,
+        program,
+    )?;
     Ok(text)
 }
 
