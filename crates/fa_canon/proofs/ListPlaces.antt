@@ -33,8 +33,3 @@ module _ {X : Type 0} where
   pub push_long : (xs : List X) (y : X) → length (xs ++ y ∷ []) ≡ suc (length xs)
   push_long [] y = refl
   push_long (x ∷ xs) y = ap (λ (n : ℕ). suc n) (push_long xs y)
-
-  pub less_there : (xs : List X) (i : ℕ) → i < length xs → (x : X) × (slice_get xs i ≡ Some x)
-  less_there [] i l = absurd (omega (arith, l))
-  less_there (x ∷ xs) zero l = (x, refl)
-  less_there (x ∷ xs) (suc i) l = less_there xs i (omega (arith, l))

@@ -118,9 +118,6 @@ pub all_tops : (autos : List Automaton) → ((k : ℕ) → k < length autos → 
 all_tops [] h = tt
 all_tops (a ∷ autos) h = (h 0 (omega arith), all_tops autos (λ k l. h (suc k) (omega (arith, l))))
 
-pub tops_at : (F : Forest) → Every HasOneTop F.autos → HaveTops (length F.autos) F
-tops_at F h k l = component_has HasOneTop F.autos k h l
-
 -- Children split.
 
 push_component : (autos : List Automaton) (b : Automaton) (k : ℕ) → k < length autos → component_at (autos ++ b ∷ []) k

@@ -46,9 +46,6 @@ only_one F G (inl e) = e
 only_one F G (inr e) = absurd e
 
 module _ (R : SoundForest → SoundForest → Type 0) where
-  pub split_none : IsSplitEach R [] []
-  split_none = record { each = λ G i. absurd i; whole = λ F i. absurd i }
-
   pub split_same : (F : SoundForest) → R F F → IsSplitEach R (F ∷ []) (F ∷ [])
   split_same F r = record {
     each =

@@ -12,13 +12,6 @@ use Rattle.fa_sound.specs.Components.{component_at}
 use Rattle.fa_split.specs.Split.{set_node}
 use Rattle.fa_split.proofs.OtherComponent.{trees_set, set_components}
 
--- the tree there is the changed one
-pub put_node : (r : ℕ) (g : Node → Node) (d : Nodes) (n : Node) → node_at d r ≡ Some n → node_at (put_at r g d) r
-    ≡ Some (g n)
-put_node r g no_nodes n e = absurd (none-some n e)
-put_node zero g (more m ns) n e = ap (λ (z : Node). Some (g z)) (same_Some m n e)
-put_node (suc r) g (more m ns) n e = put_node r g ns n e
-
 put_set : (r : ℕ) (g : Node → Node) (d : Nodes) (n : Node) → node_at d r ≡ Some n → put_at r g d ≡ set_node r (g n) d
 put_set r g no_nodes n e = absurd (none-some n e)
 put_set zero g (more m ns) n e = ap (λ (z : Node). more (g z) ns) (same_Some m n e)

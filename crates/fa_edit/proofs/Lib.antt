@@ -5,7 +5,6 @@ pub mod DatumTrees
 pub mod EditedSound
 pub mod FieldPlaces
 pub mod Gifts
-pub mod LackedFields
 pub mod LeafPuts
 pub mod LeafSound
 pub mod NewForests

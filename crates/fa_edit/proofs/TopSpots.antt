@@ -10,7 +10,6 @@ use Rattle.ta_core.specs.declared.symbol.Slot.{Slot}
 use Rattle.ta_core.specs.declared.symbol.Symbol.{Symbol}
 use Rattle.ta_core.specs.declared.symbol.Symbol.TheVariants.{Cell}
 use Rattle.ta_core.specs.declared.tree.Tree.{Tree, out-Tree, roll-out-Tree, para-roll-Tree}
-use Rattle.fa_core.specs.Boxless.{HasNoBoxes}
 use Rattle.fa_core.specs.Filled.{Spot, spots, spots_at, IsFilledSpot, Choice, TopsAre, IsTopped, TreesFilled, given_at}
 use Rattle.fa_core.specs.declared.faces.BoxFace.{BoxFace}
 use Rattle.fa_core.specs.declared.faces.Face.{Face}
@@ -72,8 +71,3 @@ top_filled face tops t above s ds ss e h =
         ap (λ (z : Tree). spots face.boxes z above) (sym (roll-out-Tree t))
         ∙ ap (λ (f : List ℕ → List Spot). f above)
         (para-roll-Tree (List ℕ → List Spot) (λ x. spots_at face.boxes x.symbol x.children) (out-Tree t))
-
-pub component_plain : (autos : List Automaton) (r : ℕ) → Every HasNoBoxes autos → HasNoBoxes (component_at autos r)
-component_plain [] r h = tt
-component_plain (a ∷ autos) zero h = h.0
-component_plain (a ∷ autos) (suc r) h = component_plain autos r h.1

@@ -111,10 +111,6 @@ module _ (n : ℕ) (rules : List Rule) (ranked : Every (IsRankedRule n) rules) (
     (λ a. (f p q l m).1 (matched_to p q l m a.0, matched_to q p m l a.1)),
   )
 
--- to height 0 all states agree, and no class is told yet
-pub agree_first : (rules : List Rule) (n : ℕ) → IsAgreement rules n 0 []
-agree_first rules n p q l m = ((λ e. tt), (λ h. refl))
-
 -- the rules of one more state
 pub each_add : (rules : List Rule) (k : ℕ) (table : List (List Rule)) (list : List Rule) → length table ≡ k
     → AreRulesEach rules k table → AreRulesOf rules k list → AreRulesEach rules (k + 1) (table ++ list ∷ [])

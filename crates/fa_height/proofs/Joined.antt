@@ -1,11 +1,9 @@
 -- Joined states, and the component that they give.
 use Rattle.std.proofs.Common.{◌≡◌, inl, inr, ℕ, zero, suc, ◌<◌, ◌+◌, List, [], ◌∷◌, ◌++◌, Some, slice_get, slice_index}
 use Rattle.std.proofs.Common.{length, take, refl, sym, ap, subst, ◌∙◌, arith}
-use Rattle.std.proofs.lemmas.Bool.{cases_order}
 use Rattle.std.proofs.lemmas.Option.{none-some, same_Some}
-use Rattle.std.proofs.lemmas.List.{get_or_push, get_or_append_left}
-use Rattle.fore_base.specs.Lists.{IsIn, Every}
-use Rattle.fore_base.proofs.ListLemmas.{every_in, every_place, same_item}
+use Rattle.fore_base.specs.Lists.{IsIn}
+use Rattle.fore_base.proofs.ListLemmas.{every_in}
 use Rattle.ta_core.specs.Auto.{Automaton, IsRanked}
 use Rattle.ta_core.specs.Language.{HasTree}
 use Rattle.ta_core.specs.Renumbered.{image}
@@ -20,23 +18,6 @@ use Rattle.fa_height.specs.inner.Joining.{marks_at, AreMarksEach, IsJoined}
 use Rattle.ta_classes.proofs.Classing.{one_class, first_in}
 
 -- The marks of the states.
-
-pub marks_none : (list : List Signature) → AreMarksEach list 0 []
-marks_none list q s l e = absurd (omega (arith, l))
-
-pub marks_add : (list : List Signature) (k : ℕ) (table : List (List RefMark)) (marks : List RefMark) (s : Signature)
-    → length table ≡ k → AreMarksEach list k table → slice_get list k ≡ Some s → marks ≡ s.refs
-    → AreMarksEach list (k + 1) (table ++ marks ∷ [])
-marks_add list k table marks s long h at is q x l e = elim (cases_order q k) [
-  | inl d ↦
-      (let same : x ≡ s = same_item list k x s (subst (λ (n : ℕ). slice_get list n ≡ Some x) d e) at in
-      ap (λ (n : ℕ). marks_at (table ++ marks ∷ []) n) d ∙ get_or_push table marks [] k long ∙ is
-      ∙ ap (λ (y : Signature). y.refs) (sym same))
-  | inr o ↦ elim o [
-    | inl j ↦ get_or_append_left table (marks ∷ []) [] q (rw long j) ∙ h q x j e
-    | inr j ↦ absurd (omega (arith, j, l))
-  ]
-]
 
 -- an item that is there
 pub get_there : {X : Type 0} (xs : List X) (i : ℕ) → i < length xs → (x : X) × (slice_get xs i ≡ Some x)
@@ -134,6 +115,3 @@ module _ (bs : List BoxFace) (k : ℕ) (a : Automaton) (ranked : IsRanked a)
         );
     images = refl;
   }
-
-  pub numbers_low : Every (λ v. v < length firsts) numbers
-  numbers_low = every_place (λ (v : ℕ). v < length firsts) numbers 0 (λ i l. joined.fits i (rw (← joined.long) l))

@@ -2,7 +2,6 @@
 use Rattle.std.proofs.Common.{◌≡◌, ℕ, ◌+◌, ◌<◌, ◌^◌, Bool, List, [], ◌∷◌, ◌++◌, map, length, slice_get}
 use Rattle.std.proofs.Common.{Option, Some, Result, Ok, Err, IfOk, OnOk, OnErr}
 use Rattle.std.proofs.Common.{refl, sym, ap, ◌∙◌, subst, arith, inl}
-use Rattle.std.specs.Option.{IfSome}
 use Rattle.std.proofs.lemmas.List.{length-append, length-map}
 use Rattle.fore_base.specs.Lists.{IsIn}
 use Rattle.fore_base.proofs.ListLemmas.{every_in, in_from_place}
@@ -70,10 +69,6 @@ module _ (face : Face) (held : Held) (is : IsHeld face held) (j : ℕ) (h : Held
 
   pub forest_sound : IsSound face (read held.pool h.forest)
   forest_sound = sound_there.forest
-
-  pub middle_kept : (kept : Kept) → h.middle ≡ Some kept → IsKeptIn held.pool kept
-  middle_kept kept there =
-      subst (λ (o : Option Kept). IfSome o (IsKeptIn held.pool)) there held_there.middle
 
   pub middle_sound : (kept : Kept) → h.middle ≡ Some kept → IsSound face (read held.pool kept)
   middle_sound kept there =
@@ -149,16 +144,6 @@ nodes_long face held = length-map held.nodes (node_of face held.pool)
 
 -- no node of the location covers the one that is to be added
 module _ (face : Face) (before after : Held) (n : Node) (budget : ℕ) where
-  pub placed_full : length before.nodes ≡ budget
-      → NoneCovers (nodes_of face before) n.head.location n.state.forest
-      → IsPlaced (nodes_of face before) n budget (nodes_of face before) Full
-  placed_full full none = (none, nodes_long face before ∙ full, refl)
-
-  pub placed_added : (length before.nodes ≡ budget → ⊥) → IsHeldWith face before n after
-      → NoneCovers (nodes_of face before) n.head.location n.state.forest
-      → IsPlaced (nodes_of face before) n budget (nodes_of face after) Added
-  placed_added room joined none = (none, (λ e. room (sym (nodes_long face before) ∙ e)), joined.1)
-
   pub placed_then : {E : Type 0} (between : Held) (r : Result Placed E) → StaysHeld face before between
       → NoneCovers (nodes_of face before) n.head.location n.state.forest
       → IfOk r (λ placed. NoneCovers (nodes_of face between) n.head.location n.state.forest

@@ -143,15 +143,6 @@ nothing_held face held nodes memo groups = record {
 
 -- steps, one after the other
 
-pub grows_not : (held : Held) → HasGrown held held
-grows_not held = record {
-  nodes = refl;
-  more = [];
-  pool = sym (append-nil held.pool);
-  memo = λ agrees. agrees;
-  groups = λ key. refl;
-}
-
 pub grows_then : (before between after : Held) → HasGrown before between → HasGrown between after
     → HasGrown before after
 grows_then before between after p q = record {
@@ -162,10 +153,6 @@ grows_then before between after p q = record {
   memo = λ agrees. q.memo (p.memo agrees);
   groups = same_then before.groups between.groups after.groups p.groups q.groups;
 }
-
-pub stays_then : (face : Face) (before between after : Held) → StaysHeld face before between
-    → StaysHeld face between after → StaysHeld face before after
-stays_then face before between after p q = (q.0, q.1 ∙ p.1)
 
 -- a forest was kept
 pub pool_grows : {X E : Type 0} (r : Result X E) (held : Held) (pool autos : List Automaton)

@@ -90,10 +90,6 @@ pub take_next : {X : Type 0} (xs : List X) (i : ℕ) (d : X) → i < length xs �
     ++ get_or xs i d ∷ []
 take_next xs i d h = ap (λ j. take j xs) (add-one i) ∙ take_suc xs i (get_or xs i d) (slice_get-get_or xs i d h)
 
-pub drop_next : {X : Type 0} (xs : List X) (i : ℕ) (d : X) → i < length xs → drop i xs ≡ get_or xs i d ∷ drop (i + 1) xs
-drop_next xs i d h = drop_suc xs i (get_or xs i d) (slice_get-get_or xs i d h)
-    ∙ ap (λ j. get_or xs i d ∷ drop j xs) (sym (add-one i))
-
 -- the item of a loop stands at its index
 pub at_item : {X : Type 0} (xs : List X) (i : ℕ) (x : X) → i < length xs → x ≡ get_or xs i x → slice_get xs i ≡ Some x
 at_item xs i x h e = slice_get-get_or xs i x h ∙ ap Some (sym e)
@@ -108,17 +104,6 @@ drop_at xs i x h = drop_suc xs i x h ∙ ap (λ j. x ∷ drop j xs) (sym (add-on
 pub if_ok : {T E : Type 0} (P Q : T → Type 0) (r : Result T E) → ((x : T) → P x → Q x) → IfOk r P → IfOk r Q
 if_ok P Q (Ok x) f h = f x h
 if_ok P Q (Err e) f h = tt
-
-pub in_nth : {X : Type 0} (xs : List X) (i : ℕ) (d : X) → i < length xs → IsIn (get_or xs i d) xs
-in_nth xs i d h = in_at xs i (get_or xs i d) (slice_get-get_or xs i d h)
-
--- a list of one item at most
-pub one_only : {X : Type 0} (xs : List X) (x y : X) → length xs ≤ 1 → IsIn x xs → IsIn y xs → x ≡ y
-one_only [] x y l h i = absurd h
-one_only (z ∷ []) x y l (inl e) (inl f) = e ∙ sym f
-one_only (z ∷ []) x y l (inl e) (inr n) = absurd n
-one_only (z ∷ []) x y l (inr n) i = absurd n
-one_only (z ∷ (w ∷ ws)) x y l h i = absurd (omega (arith, l))
 
 pub none_first : {X : Type 0} (xs : List X) → slice_get xs 0 ≡ None → xs ≡ []
 none_first [] h = refl

@@ -1,13 +1,12 @@
 -- The edges of each location.
 use Rattle.std.proofs.Common.{◌≡◌, ◌⊎◌, ℕ, suc, zero, ◌+◌, ◌<◌, List, [], ◌∷◌, ◌++◌, slice_get, slice_set}
-use Rattle.std.proofs.Common.{replicate, Some, refl, sym, ap, ◌∙◌, subst, arith, inl, inr}
-use Rattle.std.proofs.lemmas.List.{length-replicate}
+use Rattle.std.proofs.Common.{Some, refl, sym, ap, ◌∙◌, subst, arith, inl, inr}
 use Rattle.fore_base.specs.Lists.{Every}
 use Rattle.c_cfg.specs.Graphs.{ControlGraph}
 use Rattle.c_cfg.specs.declared.graph.Edge.{Edge}
 use Rattle.fix_successors.specs.Exits.{Rises, IsFrom, AreNumbers, AreExits}
 use Rattle.fix_core.specs.Listed.{numbers_at}
-use Rattle.fix_core.proofs.Covering.{at_or_other, none_at_place, set_length}
+use Rattle.fix_core.proofs.Covering.{at_or_other, set_length}
 use Rattle.fix_core.proofs.Lists.{some_same, in_left, in_right, in_push, every_of, every_both}
 
 pub rises_push : (xs : List ℕ) (d : ℕ) → Rises xs → Every (λ c. c < d) xs → Rises (xs ++ d ∷ [])
@@ -22,10 +21,6 @@ below_next (suc j) (suc b) h =
     elim (below_next j b (omega (arith, h))) [ inl l ↦ inl (omega (arith, l)) | inr e ↦ inr (ap suc e) ]
 
 module _ (edges : List Edge) where
-  -- of no edges there are none
-  no_numbers : (location : ℕ) → AreNumbers edges 0 location []
-  no_numbers location = record { rises = tt; each = λ c h. absurd h; all = λ c e less. absurd (omega (arith, less)) }
-
   from_next : (i location c : ℕ) → IsFrom edges i location c → IsFrom edges (i + 1) location c
   from_next i location c h = (omega (arith, h.0), h.1)
 
@@ -56,13 +51,6 @@ module _ (edges : List Edge) where
       | inr s ↦ in_right cs (i ∷ []) c (inl s)
     ];
   }
-
-pub exits_none : (g : ControlGraph) → AreExits g 0 (replicate g.locations [])
-exits_none g =
-    record {
-      count = length-replicate g.locations [];
-      each = λ location. rw (none_at_place g.locations location) (no_numbers g.edges location);
-    }
 
 -- one edge more
 pub exits_next : (g : ControlGraph) (i : ℕ) (e : Edge) (exits : List (List ℕ)) → slice_get g.edges i ≡ Some e

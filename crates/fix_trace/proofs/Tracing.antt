@@ -75,11 +75,6 @@ pub way_starts : (nodes : List Node) (back : List ℕ) (at : ℕ) (way choices :
     → way ≡ 0 ∷ [] → choices ≡ [] → IsOnWay nodes back at way choices
 way_starts nodes back at way choices l is none = record { here = 0; way_here = rw (is, none) begins; left = l }
 
-pub way_ends : (nodes : List Node) (back : List ℕ) (at : ℕ) (way choices : List ℕ) → IsOnWay nodes back at way choices
-    → back ≡ [] → IsWay nodes at way choices
-way_ends nodes back at way choices w none =
-    subst (λ z. IsWay nodes z way choices) (subst (λ z. LeadsBack nodes z w.here at) none w.left) w.way_here
-
 -- a way has at most one node for each number up to its last
 pub way_short : (nodes : List Node) (at : ℕ) (way used : List ℕ) → HasWays nodes → IsWay nodes at way used
     → length way ≤ at + 1

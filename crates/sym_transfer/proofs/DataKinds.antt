@@ -1,8 +1,7 @@
 -- Edges that load and store data.
-use Rattle.std.proofs.Common.{◌≡◌, ◌∙◌, ℕ, List, map, slice_set, Option, Err, refl, sym, ap, ap₂, subst}
+use Rattle.std.proofs.Common.{◌≡◌, ◌∙◌, ℕ, List, map, slice_set, Option, refl, sym, ap, ap₂, subst}
 use Rattle.std.proofs.lemmas.Option.{same_Some}
 use Rattle.fore_base.specs.Stores.{followed, var_of, datum_of, set_datum, with_datum}
-use Rattle.fore_base.specs.declared.fault.Fault.{Fault}
 use Rattle.fore_base.specs.declared.store.CellRec.{CellRec}
 use Rattle.fore_base.specs.declared.store.Datum.{Datum}
 use Rattle.fore_base.specs.declared.store.Datum.TheVariants.{Known}
@@ -19,33 +18,20 @@ use Rattle.fa_edit.specs.Data.{AllHaveDatum, AllLackDatum, IsDatumPut, datum_put
 use Rattle.c_cfg.specs.declared.graph.Const.TheVariants.{Known as ConstKnown}
 use Rattle.c_cfg.specs.declared.graph.Instr.{Instr}
 use Rattle.c_cfg.specs.declared.graph.Instr.TheVariants.{LoadData, StoreConst, StoreData}
-use Rattle.c_cfg.specs.Edges.{Passed, Faulted, NotPassed, raw_step, onto, if_there, datum_field_of, stored_datum}
+use Rattle.c_cfg.specs.Edges.{Passed, NotPassed, raw_step, onto, if_there, datum_field_of, stored_datum}
 use Rattle.sym_core.specs.Carried.{ComesRaw, Carries, AllGo}
 use Rattle.sym_core.specs.Explicit.{target_at}
 use Rattle.sym_core.specs.Kept.{HasBoxEdge}
-use Rattle.sym_transfer.specs.inner.Targets.{datum_at, root_of, with_vars}
+use Rattle.sym_transfer.specs.inner.Targets.{datum_at, with_vars}
 use Rattle.sym_transfer.proofs.Carrying.{all_go, carries_vars}
 use Rattle.sym_transfer.proofs.DatumHeaps.{datum_is, datum_lacks, heap_datum}
 use Rattle.sym_transfer.proofs.DatumPut.{datum_roots, datum_node, datum_number, datum_put_same, datum_put_twice}
 use Rattle.sym_transfer.proofs.DatumPut.{datum_edges}
 use Rattle.sym_transfer.proofs.DatumSet.{with_datum_same, with_datum_twice}
-use Rattle.sym_transfer.proofs.Following.{follow_fails, follow_root}
+use Rattle.sym_transfer.proofs.Following.{follow_root}
 use Rattle.sym_transfer.proofs.Standing.{IsHeap, store_by, heap_of, is_by, stands_by, alike_equal}
 
 module _ (face : Face) (T : List BoxDef) (H : Forest) where
-  pub load_data_fails : (to b f x : ℕ) (k : Fault) → root_of (target_at H b) ≡ Err k
-      → AllGo face T H (LoadData to b f) x (Faulted k)
-  load_data_fails to b f x k e =
-      all_go face T H (LoadData to b f) x (Faulted k)
-      (λ d cs next o h. follow_fails H b d cs next
-      (λ n. if_there (datum_field_of cs n f) (λ v. Passed (set_datum (store_by d H cs next) to v))) k e)
-
-  pub store_data_fails : (b f v x : ℕ) (k : Fault) → root_of (target_at H b) ≡ Err k
-      → AllGo face T H (StoreData b f v) x (Faulted k)
-  store_data_fails b f v x k e =
-      all_go face T H (StoreData b f v) x (Faulted k)
-      (λ d cs next o h. follow_fails H b d cs next (λ n. stored_datum (store_by d H cs next) n f (datum_at H v)) k e)
-
   -- the data field of root r is y in each dressed forest
   pub load_data : (to b f x r : ℕ) (y : Datum) → target_at H b ≡ At r → AllHaveDatum T H r f y
       → Carries face T H (with_vars H H.vars (slice_set H.data_vars to y)) (LoadData to b f) x

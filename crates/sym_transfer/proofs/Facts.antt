@@ -1,14 +1,14 @@
 -- What a store has: the fields and heads that are read in it are its facts.
-use Rattle.std.proofs.Common.{◌≡◌, ◌⊎◌, inl, inr, ℕ, zero, suc, ◌+◌, Bool, true, false, nat_eq, if◌then◌else◌, List, []}
-use Rattle.std.proofs.Common.{◌∷◌, slice_get, Some, refl, sym, ap, ap₂, subst, ◌∙◌, true≢false, arith, zero-add}
-use Rattle.std.proofs.lemmas.Bool.{eqb-true, eq-eqb, ne_eqb}
+use Rattle.std.proofs.Common.{◌≡◌, ◌⊎◌, inl, inr, ℕ, zero, suc, ◌+◌, true, false, nat_eq, List, []}
+use Rattle.std.proofs.Common.{◌∷◌, slice_get, Some, sym, ap, ap₂, subst, ◌∙◌, true≢false, arith, zero-add}
+use Rattle.std.proofs.lemmas.Bool.{eq-eqb, ne_eqb}
 use Rattle.std.proofs.lemmas.Option.{none-some, same_Some}
 use Rattle.fore_base.specs.Heap.{HasCell, AllDiffer}
 use Rattle.fore_base.specs.Lists.{IsIn}
 use Rattle.fore_base.specs.declared.store.CellRec.{CellRec}
 use Rattle.fore_base.specs.declared.store.Datum.{Datum}
 use Rattle.fore_base.specs.declared.store.Value.{Value}
-use Rattle.fore_base.proofs.ListLemmas.{in_left, in_right, in_append}
+use Rattle.fore_base.proofs.ListLemmas.{in_append}
 use Rattle.fa_core.specs.Dressed.{Fact, Head, Points}
 use Rattle.fa_core.specs.Member.{points, cell_facts, store_facts}
 use Rattle.fa_back.proofs.FactParts.{fact_cell, fact_value}
@@ -99,18 +99,3 @@ head_there n s es (c ∷ cs) (d, ds) h =
     here (inl (inl e)) rest = rw (eq-eqb c.number n (ap fact_cell (sym e))) (ap (λ x. Some (fact_shape x)) (sym e))
     here (inl (inr i)) rest = absurd (no_head n s es c.number 0 c.fields i)
     here (inr i) rest = rw (apart c cs n d (fact_has (Head n s es) cs i)) (rest i)
-
--- what is found in the store is a pointer among its facts
-pub there_field : (n f : ℕ) (v : Value) (cs : List CellRec) → field_of cs n f ≡ Some v
-    → IsIn (Points n f v) (store_facts cs)
-there_field n f v [] e = absurd (none-some v e)
-there_field n f v (c ∷ cs) e = here (nat_eq c.number n) refl e (there_field n f v cs)
-  where
-    here : (b : Bool) → nat_eq c.number n ≡ b → (if b then slice_get c.fields f else field_of cs n f) ≡ Some v
-        → (field_of cs n f ≡ Some v → IsIn (Points n f v) (store_facts cs)) → IsIn (Points n f v) (store_facts (c ∷ cs))
-    here true p q rest = in_left (Points n f v) (cell_facts c) (store_facts cs)
-        (inr
-        (subst (λ (m : ℕ). IsIn (Points m f v) (points c.number 0 c.fields)) (eqb-true c.number n p)
-        (subst (λ (j : ℕ). IsIn (Points c.number j v) (points c.number 0 c.fields)) (zero-add f)
-        (in_points c.number 0 c.fields f v q))))
-    here false p q rest = in_right (Points n f v) (cell_facts c) (store_facts cs) (rest q)

@@ -1,7 +1,7 @@
 -- Places of lists that are set, read and mapped.
 use Rattle.std.proofs.Common.{◌≡◌, ℕ, zero, suc, List, [], ◌∷◌, length, map, slice_get, slice_set, slice_index_or, Some}
 use Rattle.std.proofs.Common.{refl, sym, ap}
-use Rattle.std.proofs.lemmas.Option.{none-some, same_Some}
+use Rattle.std.proofs.lemmas.Option.{same_Some}
 use Rattle.fore_base.specs.Lists.{Every}
 
 module _ {X : Type 0} where
@@ -14,11 +14,6 @@ module _ {X : Type 0} where
   set_same [] k x e = refl
   set_same (z ∷ xs) zero x e = ap (λ (w : X). w ∷ xs) (sym (same_Some z x e))
   set_same (z ∷ xs) (suc k) x e = ap (λ (w : List X). z ∷ w) (set_same xs k x e)
-
-  pub get_set : (xs : List X) (k : ℕ) (x y : X) → slice_get xs k ≡ Some x → slice_get (slice_set xs k y) k ≡ Some y
-  get_set [] k x y e = absurd (none-some x e)
-  get_set (z ∷ xs) zero x y e = refl
-  get_set (z ∷ xs) (suc k) x y e = get_set xs k x y e
 
   pub length_set : (xs : List X) (k : ℕ) (x : X) → length (slice_set xs k x) ≡ length xs
   length_set [] k x = refl

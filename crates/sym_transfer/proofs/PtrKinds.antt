@@ -18,12 +18,10 @@ use Rattle.fa_core.specs.Dressed.{Node, Nodes, number, roots_of, value_in, cells
 use Rattle.fa_core.specs.Member.{OfForest, StandsBy, Stands}
 use Rattle.fa_back.specs.Reached.{node_at}
 use Rattle.fa_edit.specs.Leaves.{AllHaveLeaf, IsPut, leaf_put}
-use Rattle.c_cfg.specs.declared.graph.Const.{Const}
 use Rattle.c_cfg.specs.declared.graph.Const.TheVariants.{Null as ConstNull}
 use Rattle.c_cfg.specs.declared.graph.Instr.{Instr}
 use Rattle.c_cfg.specs.declared.graph.Instr.TheVariants.{LoadPtr, StorePtr, StoreConst}
 use Rattle.c_cfg.specs.Edges.{Passed, Faulted, NotPassed, raw_step, onto, if_there, field_of, may_stand, stored}
-use Rattle.c_cfg.specs.Edges.{stored_const}
 use Rattle.sym_core.specs.Carried.{ComesRaw, Carries, AllGo}
 use Rattle.sym_core.specs.Explicit.{target_at}
 use Rattle.sym_core.specs.Kept.{HasBoxEdge}
@@ -37,26 +35,12 @@ use Rattle.sym_transfer.proofs.LeafPut.{leaf_put_same, leaf_put_twice, roots_kep
 use Rattle.sym_transfer.proofs.Standing.{IsHeap, store_by, heap_of, is_by, stands_by, alike_equal}
 
 module _ (face : Face) (T : List BoxDef) (H : Forest) where
-  pub load_fails : (to b f x : ℕ) (k : Fault) → root_of (target_at H b) ≡ Err k
-      → AllGo face T H (LoadPtr to b f) x (Faulted k)
-  load_fails to b f x k e =
-      all_go face T H (LoadPtr to b f) x (Faulted k)
-      (λ d cs next o h. follow_fails H b d cs next
-      (λ n. if_there (field_of cs n f) (λ v. Passed (set_var (store_by d H cs next) to v))) k e)
-
   pub store_fails : (b f v x : ℕ) (k : Fault) → root_of (target_at H b) ≡ Err k
       → AllGo face T H (StorePtr b f v) x (Faulted k)
   store_fails b f v x k e =
       all_go face T H (StorePtr b f v) x (Faulted k)
       (λ d cs next o h. follow_fails H b d cs next
       (λ n. stored face.shapes.structs (store_by d H cs next) n f (var_of (store_by d H cs next) v)) k e)
-
-  pub store_const_fails : (b f : ℕ) (c : Const) (x : ℕ) (k : Fault) → root_of (target_at H b) ≡ Err k
-      → AllGo face T H (StoreConst b f c) x (Faulted k)
-  store_const_fails b f c x k e =
-      all_go face T H (StoreConst b f c) x (Faulted k)
-      (λ d cs next o h. follow_fails H b d cs next (λ n. stored_const face.shapes.structs (store_by d H cs next) n f c)
-      k e)
 
   -- the field of root r is the leaf t in each dressed forest
   pub load_ptr : (to b f x r : ℕ) (t : Target) → target_at H b ≡ At r → AllHaveLeaf T H r f t

@@ -3,7 +3,6 @@ use Rattle.std.proofs.Common.{◌≡◌, ◌∙◌, ℕ, Bool, true, false, true
 use Rattle.std.proofs.Common.{None, Result, Ok, Err, refl, sym, ap, ap₂}
 use Rattle.fore_base.specs.Stores.{freed}
 use Rattle.fore_base.specs.declared.fault.Fault.{Fault}
-use Rattle.fore_base.specs.declared.fault.Fault.TheVariants.{Assertion}
 use Rattle.fore_base.specs.declared.store.CellRec.{CellRec}
 use Rattle.fore_base.specs.declared.store.Datum.{Datum}
 use Rattle.fore_base.specs.declared.store.Store.{Store}
@@ -18,9 +17,9 @@ use Rattle.fa_core.specs.Filled.{IsRoot}
 use Rattle.fa_core.specs.Member.{OfForest}
 use Rattle.c_types.specs.Steps.{same_values, same_datums, agrees}
 use Rattle.c_cfg.specs.declared.graph.DataArg.{DataArg}
-use Rattle.c_cfg.specs.declared.graph.Instr.TheVariants.{Free, TestPtr, TestData, Stop}
+use Rattle.c_cfg.specs.declared.graph.Instr.TheVariants.{Free, TestPtr, TestData}
 use Rattle.c_cfg.specs.declared.graph.PtrArg.{PtrArg}
-use Rattle.c_cfg.specs.Edges.{Pass, Passed, Faulted, Halted, NotPassed, raw_step, onto, if_agreed}
+use Rattle.c_cfg.specs.Edges.{Pass, Passed, Faulted, NotPassed, raw_step, onto, if_agreed}
 use Rattle.sym_core.specs.Carried.{Carries, AllGo}
 use Rattle.sym_core.specs.Explicit.{target_at}
 use Rattle.sym_transfer.specs.inner.Targets.{target_of_arg, datum_of_arg, freed_root, same_targets}
@@ -35,11 +34,6 @@ is_right (Err k) = false
 abbrev ok_root : Result (Option ℕ) Fault → Option ℕ
 ok_root (Ok r) = r
 ok_root (Err k) = None
-
--- the fault, and where there is none the store
-abbrev fault_of : Store → Result (Option ℕ) Fault → Result Store Fault
-fault_of s (Ok r) = Ok s
-fault_of s (Err k) = Err k
 
 abbrev is_there : Option ℕ → Bool
 is_there None = false
@@ -111,28 +105,7 @@ module _ (face : Face) (T : List BoxDef) (H : Forest) where
         ∙ (ap (λ (q : Result Bool Fault). tested equal q (store_by d H cs next)) e
         ∙ ap (λ (y : Bool). if y then Passed (store_by d H cs next) else NotPassed) a))
 
-  -- Stops.
-
-  pub stop_fails : (x : ℕ) → AllGo face T H (Stop true) x (Faulted Assertion)
-  stop_fails x s m = refl
-
-  pub stop_ends : (x : ℕ) → AllGo face T H (Stop false) x Halted
-  stop_ends x s m = refl
-
   -- Frees of what is no cell.
-
-  freed_fault : (s : Store) (vs : List Value) (t : Target) (k : Fault) → freed_root t ≡ Err k → freed s (value_in vs t)
-      ≡ Err k
-  freed_fault s vs Null k e = absurd (true≢false (ap is_right e))
-  freed_fault s vs Uninit k e = ap (fault_of s) e
-  freed_fault s vs Dangling k e = ap (fault_of s) e
-  freed_fault s vs (At r) k e = absurd (true≢false (ap is_right e))
-
-  pub free_fails : (b x : ℕ) (k : Fault) → freed_root (target_at H b) ≡ Err k → AllGo face T H (Free b) x (Faulted k)
-  free_fails b x k e = all_go face T H (Free b) x (Faulted k) (λ d cs next o h.
-      let s = store_by d H cs next in
-      ap (λ (v : Value). onto (freed s v) Passed) (var_is d H cs next b)
-      ∙ ap (λ (q : Result Store Fault). onto q Passed) (freed_fault s (roots_of d) (target_at H b) k e))
 
   -- a null pointer may be freed, and nothing happens
   pub free_null : (b x : ℕ) → target_at H b ≡ Null → Carries face T H H (Free b) x
