@@ -113,7 +113,7 @@ module _ (bs : List BoxFace) where
     leaf_holds t above y e k =
         subst (Every P)
         (sym (spots_out bs t above
-            ∙ ap (λ (z : Symbol). spots_at bs z (with_spots bs (out-Tree t).children) above) e ∙ k)) tt
+        ∙ ap (λ (z : Symbol). spots_at bs z (with_spots bs (out-Tree t).children) above) e ∙ k)) tt
 
     module _ (rules : List Rule) where
       pub symbols_of : {qs : List ℕ} {ts : List Tree} → RunEach rules qs ts
