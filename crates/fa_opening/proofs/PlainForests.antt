@@ -1,7 +1,8 @@
 -- Forests without box edges: nothing is there to be opened.
-use Rattle.std.proofs.Common.{◌≡◌, ℕ, List, [], refl, sym, subst, Option, Some, None, slice_get}
+use Rattle.std.proofs.Common.{◌≡◌, ℕ, zero, suc, List, [], ◌∷◌, refl, sym, subst, Option, Some, None, slice_get}
 use Rattle.fore_base.specs.Lists.{IsIn, Every}
 use Rattle.fore_base.proofs.ListLemmas.{every_in, in_from_place}
+use Rattle.ta_core.specs.Auto.{Automaton}
 use Rattle.ta_core.specs.Language.{InLanguage}
 use Rattle.ta_core.specs.declared.auto.Rule.{Rule}
 use Rattle.ta_core.specs.declared.symbol.Slot.{Slot}
@@ -18,7 +19,6 @@ use Rattle.fa_core.proofs.PlainWays.{none_given, plain_to, run_plain}
 use Rattle.fa_sound.specs.Components.{component_at}
 use Rattle.fa_split.specs.Split.{top_rule}
 use Rattle.fa_split.proofs.TopRules.{top_in}
-use Rattle.fa_edit.proofs.TopSpots.{component_plain}
 use Rattle.fa_lift.specs.Lift.{IsProvider, fields_given}
 use Rattle.fa_unfold.specs.UnfoldingOf.{CanUnfold, IsBoxEdge, root_slots}
 use Rattle.fa_opening.specs.inner.Rounds.{IsNeeded}
@@ -35,6 +35,12 @@ field_no_edge : (s : Slot) → IsField s → IsBoxEdge (Some s) → ⊥
 field_no_edge (Field f) i h = h
 field_no_edge (Link b) i h = i
 field_no_edge (Hook b) i h = i
+
+-- no component has box edges, also where there is none
+component_plain : (autos : List Automaton) (r : ℕ) → Every HasNoBoxes autos → HasNoBoxes (component_at autos r)
+component_plain [] r h = tt
+component_plain (a ∷ autos) zero h = h.0
+component_plain (a ∷ autos) (suc r) h = component_plain autos r h.1
 
 module _ (F : Forest) (plain : Every HasNoBoxes F.autos) where
   -- no slot of a root with one rule is a box edge
