@@ -65,13 +65,6 @@ pub record IsFoldedSoFar (T : Boxes) (F G : SoundForest) (xs : List FoldStep) : 
   pub face : G.face ≡ F.face
   pub members : (hs : List Shape) (s : Store) → Stands hs T.defs F.forest s → Stands hs T.defs G.forest s
 
-pub none_so_far : (T : Boxes) (F G : SoundForest) → G ≡ F → IsFoldedSoFar T F G []
-none_so_far T F G e = record {
-  folds = ap (λ (Z : SoundForest). Z.forest) (sym e);
-  face = ap (λ (Z : SoundForest). Z.face) e;
-  members = λ hs s h. subst (λ (Z : SoundForest). Stands hs T.defs Z.forest s) (sym e) h;
-}
-
 pub one_more : (T : Boxes) (F G H : SoundForest) (xs : List FoldStep) (x : FoldStep) → IsFoldedSoFar T F G xs
     → IsLeastFold T G.forest x H.forest → H.face ≡ G.face
     → ((hs : List Shape) (s : Store) → Stands hs T.defs G.forest s → Stands hs T.defs H.forest s)
