@@ -6,19 +6,18 @@ use Rattle.c_ast.specs.declared.statements.Stmt.{Stmt}
 use Rattle.c_ast.specs.declared.statements.Stmt.TheVariants as stmt'
 use Rattle.c_lexer.specs.declared.token.Token.{Token}
 use Rattle.c_grammar.specs.words.Faults.{Alive, Dead, Fails, Takes}
-use Rattle.c_grammar.specs.Grammar.{Rule, token, ◌then◌, Made}
+use Rattle.c_grammar.specs.Grammar.{Rule, ◌then◌}
 use Rattle.c_grammar.specs.words.Sets.{no_sign, elses, begins_stmt}
 use Rattle.c_grammar.specs.Signs.{sign_at}
-use Rattle.c_grammar.specs.Syntax.{second, stmt, other_part}
+use Rattle.c_grammar.specs.Syntax.{behind, stmt, other_part}
 use Rattle.c_grammar.specs.declared.fault.SyntaxFault.{SyntaxFault}
 use Rattle.c_grammar.specs.declared.signs.Sign.TheVariants as sign
 use Rattle.c_grammar.proofs.Decide.{apart_of, within}
-use Rattle.c_grammar.proofs.Goods.{named}
 use Rattle.c_grammar.proofs.Rules.{Good, Fits, fails_map, fails_front, fails_back, bars_both, same_head, nonempty}
-use Rattle.c_grammar.proofs.Statements.{good_stmt, good_other}
-use Rattle.c_grammar.proofs.Readings.{and_then}
+use Rattle.c_grammar.proofs.Statements.{good_stmt, good_other, good_branches}
+use Rattle.c_grammar.proofs.Families.{and_then}
 use Rattle.c_grammar.proofs.Levels.{empty_stmt}
-use Rattle.c_grammar.proofs.Steps.{widen_fails, good_pair}
+use Rattle.c_grammar.proofs.Steps.{widen_fails}
 use Rattle.c_grammar.proofs.Tokens.{sample}
 use Rattle.c_grammar.proofs.SignLemmas.{clash, one_of}
 use Rattle.c_grammar.specs.words.Parted.{begins_level}
@@ -40,7 +39,7 @@ bad_then n end ts e f = widen_fails no_sign elses begins_level refl refl refl
 
 -- the else that stands there belongs to this if
 abbrev Else : Rule Stmt
-Else n = Made second (token sign.Else then stmt n)
+Else n = behind sign.Else (stmt n)
 
 -- an else and its statement, or none, and where the statement fails
 module _ (n : ℕ) (end : Place) (mid : List Token) (here : sign_at mid ≡ sign.Else) where
@@ -48,7 +47,7 @@ module _ (n : ℕ) (end : Place) (mid : List Token) (here : sign_at mid ≡ sign
   first = ap elses here
 
   only_else : (m : ℕ) (z y : List Token) (o : Option Stmt) → elses (sign_at z) ≡ true → other_part (stmt m) z y o
-      → (v : Stmt) × Made second (token sign.Else then stmt m) z y v
+      → (v : Stmt) × Else m z y v
   only_else m z y o h (inl r) = (r.part, r.read)
   only_else m z y o h (inr r) = absurd (r.1 (sym (ap sign_at r.0.0) ∙ one_of sign.Else (sign_at z) h))
 
@@ -115,7 +114,7 @@ bad_else n end ts mid x e took here f =
 
 -- both branches are read
 pub good_tail : Good Tail begins_stmt no_sign elses false
-good_tail = named begins_stmt no_sign elses (good_pair good_stmt (good_other good_stmt) refl) refl refl refl
+good_tail = good_branches good_stmt
 
 -- the shortest branches
 pub least_tail : (n : ℕ) → Alive Tail elses n []

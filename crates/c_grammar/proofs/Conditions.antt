@@ -1,6 +1,6 @@
 -- How a condition is read, and where it fails.
-use Rattle.std.proofs.Common.{◌≡◌, ◌≢◌, ◌≤◌, ℕ, zero, suc, Bool, true, false, List, [], ◌∷◌, ◌++◌, Some, None, refl}
-use Rattle.std.proofs.Common.{sym, ap, ◌∙◌, subst, append_assoc, inl, inr, arith}
+use Rattle.std.proofs.Common.{◌≡◌, ◌≢◌, ℕ, zero, suc, Bool, true, false, List, [], ◌∷◌, ◌++◌, Some, None, refl}
+use Rattle.std.proofs.Common.{sym, ap, ◌∙◌, subst, append_assoc, inl, inr}
 use Rattle.fore_base.specs.declared.place.Place.{Place}
 use Rattle.c_ast.specs.declared.conditions.Cond.{Cond}
 use Rattle.c_ast.specs.declared.conditions.Test.{Test}
@@ -8,39 +8,39 @@ use Rattle.c_ast.specs.declared.conditions.Test.TheVariants as test'
 use Rattle.c_ast.specs.declared.conditions.Unary.{Unary}
 use Rattle.c_ast.specs.declared.conditions.Unary.TheVariants as unary'
 use Rattle.c_ast.specs.declared.operands.Operand.{Operand}
-use Rattle.c_ast.specs.declared.operands.Operand.TheVariants as operand'
 use Rattle.c_lexer.specs.declared.token.Token.{Token}
 use Rattle.c_grammar.specs.words.Faults.{Alive, Fails, Takes}
-use Rattle.c_grammar.specs.words.Faults.Fails.{sunk}
-use Rattle.c_grammar.specs.Grammar.{Rule, token, ◌then◌, Many, Made, level}
+use Rattle.c_grammar.specs.Grammar.{token, ◌then◌, level}
 use Rattle.c_grammar.specs.words.Sets.{Signs, among, no_sign, equals, begins_nested, begins_operand, begins_cond}
 use Rattle.c_grammar.specs.words.Sets.{operand_goes_on, test_goes_on, and_goes_on, cond_goes_on}
 use Rattle.c_grammar.specs.words.Shapes.{StaysOut, two_sides, a_comparison, a_test, next_test, next_and}
 use Rattle.c_grammar.specs.Signs.{sign_of, sign_at, or_on}
 use Rattle.c_grammar.specs.Syntax as s
-use Rattle.c_grammar.specs.Syntax.{at, operand, unary, inner_unary, test_with, and_with, cond, sides, test_of, joined}
-use Rattle.c_grammar.specs.Syntax.{second, optional, not_of, bracket_of, and_of, cond_of}
+use Rattle.c_grammar.specs.Syntax.{at, call, operand, unary, inner_unary, test_with, and_with, cond, sides, test_of}
+use Rattle.c_grammar.specs.Syntax.{optional, not_of, bracket_of, and_of, cond_of}
 use Rattle.c_grammar.specs.declared.fault.SyntaxFault.{SyntaxFault}
 use Rattle.c_grammar.specs.declared.fault.SyntaxFault.TheVariants.{Syntax, Deep}
 use Rattle.c_grammar.specs.declared.signs.Sign.{Sign}
 use Rattle.c_grammar.specs.declared.signs.Sign.TheVariants as sign
 use Rattle.c_grammar.proofs.Decide.{apart_of, within, inside}
 use Rattle.c_grammar.proofs.Endings.{ends_at}
-use Rattle.c_grammar.proofs.Goods.{named, good_one, good_at, good_operand}
+use Rattle.c_grammar.proofs.Goods.{good_one, good_at, good_operand, good_next, good_series}
 use Rattle.c_grammar.proofs.Parts.{Same, good_made, good_nothing, good_level, good_same, takes_made, fails_made}
 use Rattle.c_grammar.proofs.Parts.{fails_same, takes_same, takes_nothing, takes_token, takes_left, takes_right}
-use Rattle.c_grammar.proofs.Parts.{fails_left, fails_right, fails_first, fails_level, takes_level}
-use Rattle.c_grammar.proofs.Readings.{null_there}
-use Rattle.c_grammar.proofs.Repeats.{good_many}
+use Rattle.c_grammar.proofs.Series.{least_series}
+use Rattle.c_grammar.proofs.Parts.{alive_made, deep_first, fails_left, fails_right, fails_first, fails_level}
+use Rattle.c_grammar.proofs.Parts.{takes_level}
+use Rattle.c_grammar.proofs.Families.{make, and_then}
+use Rattle.c_grammar.proofs.Readings.{tok, at_told, null_operand}
 use Rattle.c_grammar.proofs.Rules.{Good}
 use Rattle.c_grammar.proofs.Sequences.{least_one}
 use Rattle.c_grammar.proofs.Statements.{good_sides, good_side, good_maybe_side, good_compared, good_factored_test}
 use Rattle.c_grammar.proofs.Statements.{factored_test, to_test, from_test, unary_over, good_unary_over}
 use Rattle.c_grammar.proofs.Statements.{good_inner_unary, good_cond}
-use Rattle.c_grammar.proofs.Steps.{good_pair, pair, in_front, in_back, in_back_of, widen_takes, widen_fails}
-use Rattle.c_grammar.proofs.Tokens.{sample, sampled, real, takes_at, fails_one}
+use Rattle.c_grammar.proofs.Steps.{good_chain, pair, in_front, in_back, in_back_of, widen_takes, widen_fails}
+use Rattle.c_grammar.proofs.Tokens.{sample, real, takes_at, fails_one}
 use Rattle.c_grammar.specs.Hopeless.{place_at}
-use Rattle.c_grammar.proofs.SignLemmas.{or_of, clash, told_apart, one_of}
+use Rattle.c_grammar.proofs.SignLemmas.{or_of, clash, only_right, told_apart, one_of}
 
 abbrev pub ands : Signs
 ands = among (sign.And ∷ [])
@@ -78,95 +78,42 @@ same_test = record {
 pub good_test : Good a_test.rule begins_cond test_goes_on no_sign false
 good_test = good_same same_test (good_factored_test gl)
 
-pub good_more_tests : Good (λ n. Many (Made second (token sign.And then test_with (operand n) (unary n)))) ands
-    and_goes_on no_sign true
-good_more_tests = named ands and_goes_on no_sign
-    (good_many
-    (named ands test_goes_on no_sign (good_made (good_pair (good_one sign.And) good_test refl) second) refl refl refl)
-    (apart_of test_goes_on ands refl) (apart_of no_sign ands refl)) refl refl refl
-
 pub good_next_test : Good next_test.rule ands test_goes_on no_sign false
-good_next_test = named ands test_goes_on no_sign (good_made (good_pair (good_one sign.And) good_test refl) second) refl
-    refl refl
+good_next_test = good_next sign.And good_test
 
 pub good_and : Good (λ n. and_with (operand n) (unary n)) begins_cond and_goes_on no_sign false
-good_and = named begins_cond and_goes_on no_sign
-    (good_made (good_made (good_pair good_test good_more_tests refl) joined) and_of) refl refl refl
+good_and = good_made (good_series sign.And good_test refl refl) and_of
 
 pub good_next_and : Good next_and.rule ors and_goes_on no_sign false
-good_next_and = named ors and_goes_on no_sign (good_made (good_pair (good_one sign.Or) good_and refl) second) refl refl
-    refl
-
-pub good_more_ands : Good (λ n. Many (Made second (token sign.Or then and_with (operand n) (unary n)))) ors cond_goes_on
-    no_sign true
-good_more_ands = named ors cond_goes_on no_sign
-    (good_many good_next_and (apart_of and_goes_on ors refl) (apart_of no_sign ors refl)) refl refl refl
+good_next_and = good_next sign.Or good_and
 
 -- shortest readings
 pub least_operand : (n : ℕ) → Alive operand no_sign n []
-least_operand n = record {
-  more = sample sign.Null ∷ [];
-  tree = operand'.Null (sample sign.Null).at;
-  reads = λ y h. null_there y;
-}
+least_operand = null_operand call
 
 pub least_unary : (n : ℕ) → Alive unary no_sign n []
-least_unary zero = let o = least_operand zero in
+least_unary n = let o = least_operand n in
     record {
       more = o.more;
       tree = unary'.Operand o.tree;
-      reads = λ y h. inr (record { part = o.tree; is = refl; read = o.reads y h });
-    }
-least_unary (suc n) = let o = least_operand (suc n) in
-    record {
-      more = o.more;
-      tree = unary'.Operand o.tree;
-      reads = λ y h. inr (record { part = o.tree; is = refl; read = o.reads y h });
+      reads = λ y h. same_unary.to n _ y _ (inr (make unary'.Operand (o.reads y h)));
     }
 
 pub test_alive : (n : ℕ) (pre : List Token) → Alive unary no_sign n pre → Alive a_test.rule no_sign n pre
 test_alive n pre a = record {
   more = a.more;
   tree = test'.Unary a.tree;
-  reads = λ y h. inr (record { part = a.tree; is = refl; read = a.reads y h });
+  reads = λ y h. inr (make test'.Unary (a.reads y h));
 }
 
 pub least_test : (n : ℕ) → Alive a_test.rule no_sign n []
 least_test n = test_alive n [] (least_unary n)
 
 pub least_and : (n : ℕ) → Alive (λ n. and_with (operand n) (unary n)) no_sign n []
-least_and n = let t = least_test n in record {
-  more = t.more;
-  tree = and_of (t.tree ∷ []);
-  reads = λ y h. record {
-    part = t.tree ∷ [];
-    is = refl;
-    read = record {
-      part = (t.tree, []);
-      is = refl;
-      read = record { mid = y; front = t.reads y h; back = Many.none };
-    };
-  };
-}
+least_and n = alive_made and_of (least_series sign.And good_test refl n (least_test n))
 
 pub least_cond : (n : ℕ) → Alive cond no_sign n []
-least_cond n = let t = least_and n in record {
-  more = t.more;
-  tree = cond_of (t.tree ∷ []);
-  reads = λ y h. record {
-    part = t.tree ∷ [];
-    is = refl;
-    read = record {
-      part = (t.tree, []);
-      is = refl;
-      read = record { mid = y; front = t.reads y h; back = Many.none };
-    };
-  };
-}
-
-only_right : (a b : Bool) → or_on a b ≡ true → a ≡ false → b ≡ true
-only_right true b h e = absurd (clash e)
-only_right false b h e = h
+least_cond n = alive_made cond_of (least_series sign.Or good_and refl n (least_and n))
 
 nested_signs : (x : Sign) → begins_nested x ≡ true → or_on (among (sign.Not ∷ []) x) (among (sign.Open ∷ []) x) ≡ true
 nested_signs x h = inside begins_nested (λ x. or_on (among (sign.Not ∷ []) x) (among (sign.Open ∷ []) x)) refl x h
@@ -185,35 +132,18 @@ unary_on t first = split (among (sign.Not ∷ []) (sign_of t)) refl
     negated told = record {
       more = u.more;
       tree = not_of (t.at, u.tree);
-      reads = λ y h. inl (inl (record {
-        part = (t.at, u.tree);
-        is = refl;
-        read = record {
-          mid = u.more ++ y;
-          front = record { part = t; is = refl; read = (refl, told) };
-          back = u.reads y h;
-        };
-      }));
+      reads = λ y h. inl (inl (make not_of (and_then _ (at_told t sign.Not told _) (u.reads y h))));
     }
 
     enclosed : sign_of t ≡ sign.Open → Alive unary no_sign 1 (t ∷ [])
     enclosed told = record {
       more = c.more ++ sample sign.Close ∷ [];
       tree = bracket_of (t.at, (c.tree, sample sign.Close));
-      reads = λ y h. inl (inr (record {
-        part = (t.at, (c.tree, sample sign.Close));
-        is = refl;
-        read = record {
-          mid = (c.more ++ sample sign.Close ∷ []) ++ y;
-          front = record { part = t; is = refl; read = (refl, told) };
-          back = record {
-            mid = sample sign.Close ∷ y;
-            front = subst (λ l. cond 0 l (sample sign.Close ∷ y) c.tree)
-                (sym (append_assoc c.more (sample sign.Close ∷ []) y)) (c.reads (sample sign.Close ∷ y) refl);
-            back = (refl, sampled sign.Close (real sign.Close tt));
-          };
-        };
-      }));
+      reads = λ y h. inl (inr (make bracket_of (and_then _ (at_told t sign.Open told _)
+          (and_then (sample sign.Close ∷ y)
+          (subst (λ l. cond 0 l (sample sign.Close ∷ y) c.tree)
+          (sym (append_assoc c.more (sample sign.Close ∷ []) y)) (c.reads (sample sign.Close ∷ y) refl))
+          (tok sign.Close (real sign.Close tt) y)))));
     }
 
     other_sign : (x : Sign) → begins_nested x ≡ true → among (sign.Not ∷ []) x ≡ false → among (sign.Open ∷ []) x ≡ true
@@ -222,35 +152,6 @@ unary_on t first = split (among (sign.Not ∷ []) (sign_of t)) refl
     split : (v : Bool) → among (sign.Not ∷ []) (sign_of t) ≡ v → Alive unary no_sign 1 (t ∷ [])
     split true e = negated (one_of sign.Not (sign_of t) e)
     split false e = enclosed (one_of sign.Open (sign_of t) (other_sign (sign_of t) first e))
-
--- where a level begins and none is left
-deep_first : {X : Type 0} (F : Rule X) (c : Signs) (end : Place) (ts : List Token) → begins_nested (sign_at ts) ≡ true
-    → Alive F no_sign 0 [] →
-    ((t : Token) → begins_nested (sign_of t) ≡ true → Alive F no_sign 1 (t ∷ [])) →
-    ((z y : List Token) (x : X) → begins_nested (sign_at z) ≡ true → F 0 z y x → ⊥)
-    → Fails F c no_sign begins_nested 0 end ts (Deep (place_at end ts))
-deep_first F c end [] first least on dead = absurd (clash (sym first))
-deep_first {X} F c end (t ∷ rest) first least on dead = sunk (record {
-  pre = [];
-  next = t;
-  post = rest;
-  is = refl;
-  alive = least;
-  dead = within_none;
-  room = 1;
-  place = refl;
-  early = λ e. first;
-  higher = omega arith;
-  deeper = on t first;
-})
-  where
-    within_none : (m : ℕ) → m ≤ 0 → (z y : List Token) (x : X) → sign_at z ≡ sign_of t → c (sign_at y) ≡ false
-        → F m z y x → ⊥
-    within_none zero le z y x same h r = dead z y x (ap begins_nested same ∙ first) r
-    within_none (suc m) le z y x same h r = nope le
-      where
-        nope : suc m ≤ 0 → ⊥
-        nope l = omega (arith, l)
 
 no_unary : (z y : List Token) (x : Unary) → begins_nested (sign_at z) ≡ true → unary 0 z y x → ⊥
 no_unary z y x first (inl r) = r
@@ -275,7 +176,7 @@ unary_stays n end ts e no_operand (inl f) =
 unary_stays n end ts e no_operand (inr f) =
     subst (λ e. Fails unary operand_goes_on no_sign begins_nested n end ts e) (sym f.0)
     (subst (λ n. Fails unary operand_goes_on no_sign begins_nested n end ts (Deep (place_at end ts))) (sym f.1)
-    (deep_first unary operand_goes_on end ts f.2 (least_unary 0) unary_on no_unary))
+    (deep_first unary operand_goes_on no_sign begins_nested end ts f.2 refl (least_unary 0) unary_on no_unary))
 
 pub test_stays : (n : ℕ) (end : Place) (ts : List Token) (e : SyntaxFault) → begins_operand (sign_at ts) ≡ false
     → StaysOut begins_nested n end ts e → Fails a_test.rule test_goes_on no_sign begins_nested n end ts e
@@ -285,8 +186,8 @@ test_stays n end ts e no_operand (inl f) =
 test_stays n end ts e no_operand (inr f) =
     subst (λ e. Fails a_test.rule test_goes_on no_sign begins_nested n end ts e) (sym f.0)
     (subst (λ n. Fails a_test.rule test_goes_on no_sign begins_nested n end ts (Deep (place_at end ts))) (sym f.1)
-    (deep_first a_test.rule test_goes_on end ts f.2 (least_test 0) (λ t first. test_alive 1 (t ∷ []) (unary_on t first))
-    no_test))
+    (deep_first a_test.rule test_goes_on no_sign begins_nested end ts f.2 refl (least_test 0)
+    (λ t first. test_alive 1 (t ∷ []) (unary_on t first)) no_test))
 
 -- one level further in
 module _ (n k : ℕ) (is : n ≡ suc k) (end : Place) (ts : List Token) where
@@ -360,16 +261,14 @@ module _ (n : ℕ) (end : Place) (ts : List Token) where
 
 -- negations and brackets
 good_not : Good (λ n. at sign.Not then unary n) (among (sign.Not ∷ [])) operand_goes_on no_sign false
-good_not = named (among (sign.Not ∷ [])) operand_goes_on no_sign (good_pair (good_at sign.Not) good_unary refl) refl
-    refl refl
+good_not = good_chain (good_at sign.Not) good_unary refl
 
 good_closed : Good (λ n. cond n then token sign.Close) begins_cond no_sign no_sign false
-good_closed = named begins_cond no_sign no_sign (good_pair good_cond (good_one sign.Close) refl) refl refl refl
+good_closed = good_chain good_cond (good_one sign.Close) refl
 
 good_brackets : Good (λ n. at sign.Open then cond n then token sign.Close) (among (sign.Open ∷ [])) no_sign no_sign
     false
-good_brackets = named (among (sign.Open ∷ [])) no_sign no_sign (good_pair (good_at sign.Open) good_closed refl) refl
-    refl refl
+good_brackets = good_chain (good_at sign.Open) good_closed refl
 
 module _ (n : ℕ) (end : Place) (ts rest : List Token) (t : Token) (is : ts ≡ t ∷ rest) where
   pub not_fails : (e : SyntaxFault) → sign_of t ≡ sign.Not
@@ -450,9 +349,7 @@ no_sides n end ts e is no_equal other =
     (record {
       more = sample sign.Equal ∷ [];
       tree = true;
-      reads =
-          λ y h.
-          inl (record { part = sample sign.Equal; is = refl; read = (refl, sampled sign.Equal (real sign.Equal tt)) });
+      reads = λ y h. inl (make s.yes_of (tok sign.Equal (real sign.Equal tt) y));
     })
     (within equals (λ x. or_on (among (sign.Equal ∷ []) x) (among (sign.Unequal ∷ []) x)) refl (sign_at ts)
     (or_of _ _ no_equal (or_of _ _ (told_apart sign.Unequal (sign_at ts) other) refl))))

@@ -10,7 +10,7 @@ use Rattle.c_grammar.specs.declared.signs.Sign.TheVariants.{Star, Assign, Not, O
 use Rattle.c_grammar.proofs.Rules.{Apart}
 use Rattle.c_grammar.proofs.Parts.{Within}
 use Rattle.c_grammar.specs.Signs.{and}
-use Rattle.c_grammar.proofs.SignLemmas.{clash}
+use Rattle.c_grammar.proofs.SignLemmas.{clash, and_left, and_right}
 
 abbrev pub all : Signs → List Sign → Bool
 all p [] = true
@@ -82,14 +82,6 @@ signs =
 abbrev pub every : Signs → Bool
 every p = all p signs
 
-left : (a b : Bool) → and a b ≡ true → a ≡ true
-left true b e = refl
-left false b e = e
-
-right : (a b : Bool) → and a b ≡ true → b ≡ true
-right true b e = e
-right false b e = absurd (clash (sym e))
-
 abbrev skip : ℕ → List Sign → List Sign
 skip zero ss = ss
 skip (suc k) [] = []
@@ -98,47 +90,47 @@ skip (suc k) (s ∷ ss) = skip k ss
 all_skip : (p : Signs) (k : ℕ) (ss : List Sign) → all p ss ≡ true → all p (skip k ss) ≡ true
 all_skip p zero ss h = h
 all_skip p (suc k) [] h = h
-all_skip p (suc k) (s ∷ ss) h = all_skip p k ss (right (p s) (all p ss) h)
+all_skip p (suc k) (s ∷ ss) h = all_skip p k ss (and_right (p s) (all p ss) h)
 
 pub holds : (p : Signs) → every p ≡ true → (s : Sign) → p s ≡ true
-holds p h Id = left (p Id) (all p (skip 1 signs)) (all_skip p 0 signs h)
-holds p h Number = left (p Number) (all p (skip 2 signs)) (all_skip p 1 signs h)
-holds p h Struct = left (p Struct) (all p (skip 3 signs)) (all_skip p 2 signs h)
-holds p h Enum = left (p Enum) (all p (skip 4 signs)) (all_skip p 3 signs h)
-holds p h Int = left (p Int) (all p (skip 5 signs)) (all_skip p 4 signs h)
-holds p h Void = left (p Void) (all p (skip 6 signs)) (all_skip p 5 signs h)
-holds p h Extern = left (p Extern) (all p (skip 7 signs)) (all_skip p 6 signs h)
-holds p h If = left (p If) (all p (skip 8 signs)) (all_skip p 7 signs h)
-holds p h Else = left (p Else) (all p (skip 9 signs)) (all_skip p 8 signs h)
-holds p h While = left (p While) (all p (skip 10 signs)) (all_skip p 9 signs h)
-holds p h Do = left (p Do) (all p (skip 11 signs)) (all_skip p 10 signs h)
-holds p h For = left (p For) (all p (skip 12 signs)) (all_skip p 11 signs h)
-holds p h Return = left (p Return) (all p (skip 13 signs)) (all_skip p 12 signs h)
-holds p h Break = left (p Break) (all p (skip 14 signs)) (all_skip p 13 signs h)
-holds p h Continue = left (p Continue) (all p (skip 15 signs)) (all_skip p 14 signs h)
-holds p h Sizeof = left (p Sizeof) (all p (skip 16 signs)) (all_skip p 15 signs h)
-holds p h Malloc = left (p Malloc) (all p (skip 17 signs)) (all_skip p 16 signs h)
-holds p h Free = left (p Free) (all p (skip 18 signs)) (all_skip p 17 signs h)
-holds p h Assert = left (p Assert) (all p (skip 19 signs)) (all_skip p 18 signs h)
-holds p h Null = left (p Null) (all p (skip 20 signs)) (all_skip p 19 signs h)
-holds p h True = left (p True) (all p (skip 21 signs)) (all_skip p 20 signs h)
-holds p h False = left (p False) (all p (skip 22 signs)) (all_skip p 21 signs h)
-holds p h Arrow = left (p Arrow) (all p (skip 23 signs)) (all_skip p 22 signs h)
-holds p h Equal = left (p Equal) (all p (skip 24 signs)) (all_skip p 23 signs h)
-holds p h Unequal = left (p Unequal) (all p (skip 25 signs)) (all_skip p 24 signs h)
-holds p h And = left (p And) (all p (skip 26 signs)) (all_skip p 25 signs h)
-holds p h Or = left (p Or) (all p (skip 27 signs)) (all_skip p 26 signs h)
-holds p h OpenBrace = left (p OpenBrace) (all p (skip 28 signs)) (all_skip p 27 signs h)
-holds p h CloseBrace = left (p CloseBrace) (all p (skip 29 signs)) (all_skip p 28 signs h)
-holds p h Open = left (p Open) (all p (skip 30 signs)) (all_skip p 29 signs h)
-holds p h Close = left (p Close) (all p (skip 31 signs)) (all_skip p 30 signs h)
-holds p h Semicolon = left (p Semicolon) (all p (skip 32 signs)) (all_skip p 31 signs h)
-holds p h Comma = left (p Comma) (all p (skip 33 signs)) (all_skip p 32 signs h)
-holds p h Star = left (p Star) (all p (skip 34 signs)) (all_skip p 33 signs h)
-holds p h Assign = left (p Assign) (all p (skip 35 signs)) (all_skip p 34 signs h)
-holds p h Not = left (p Not) (all p (skip 36 signs)) (all_skip p 35 signs h)
-holds p h Other = left (p Other) (all p (skip 37 signs)) (all_skip p 36 signs h)
-holds p h End = left (p End) (all p (skip 38 signs)) (all_skip p 37 signs h)
+holds p h Id = and_left (p Id) (all p (skip 1 signs)) (all_skip p 0 signs h)
+holds p h Number = and_left (p Number) (all p (skip 2 signs)) (all_skip p 1 signs h)
+holds p h Struct = and_left (p Struct) (all p (skip 3 signs)) (all_skip p 2 signs h)
+holds p h Enum = and_left (p Enum) (all p (skip 4 signs)) (all_skip p 3 signs h)
+holds p h Int = and_left (p Int) (all p (skip 5 signs)) (all_skip p 4 signs h)
+holds p h Void = and_left (p Void) (all p (skip 6 signs)) (all_skip p 5 signs h)
+holds p h Extern = and_left (p Extern) (all p (skip 7 signs)) (all_skip p 6 signs h)
+holds p h If = and_left (p If) (all p (skip 8 signs)) (all_skip p 7 signs h)
+holds p h Else = and_left (p Else) (all p (skip 9 signs)) (all_skip p 8 signs h)
+holds p h While = and_left (p While) (all p (skip 10 signs)) (all_skip p 9 signs h)
+holds p h Do = and_left (p Do) (all p (skip 11 signs)) (all_skip p 10 signs h)
+holds p h For = and_left (p For) (all p (skip 12 signs)) (all_skip p 11 signs h)
+holds p h Return = and_left (p Return) (all p (skip 13 signs)) (all_skip p 12 signs h)
+holds p h Break = and_left (p Break) (all p (skip 14 signs)) (all_skip p 13 signs h)
+holds p h Continue = and_left (p Continue) (all p (skip 15 signs)) (all_skip p 14 signs h)
+holds p h Sizeof = and_left (p Sizeof) (all p (skip 16 signs)) (all_skip p 15 signs h)
+holds p h Malloc = and_left (p Malloc) (all p (skip 17 signs)) (all_skip p 16 signs h)
+holds p h Free = and_left (p Free) (all p (skip 18 signs)) (all_skip p 17 signs h)
+holds p h Assert = and_left (p Assert) (all p (skip 19 signs)) (all_skip p 18 signs h)
+holds p h Null = and_left (p Null) (all p (skip 20 signs)) (all_skip p 19 signs h)
+holds p h True = and_left (p True) (all p (skip 21 signs)) (all_skip p 20 signs h)
+holds p h False = and_left (p False) (all p (skip 22 signs)) (all_skip p 21 signs h)
+holds p h Arrow = and_left (p Arrow) (all p (skip 23 signs)) (all_skip p 22 signs h)
+holds p h Equal = and_left (p Equal) (all p (skip 24 signs)) (all_skip p 23 signs h)
+holds p h Unequal = and_left (p Unequal) (all p (skip 25 signs)) (all_skip p 24 signs h)
+holds p h And = and_left (p And) (all p (skip 26 signs)) (all_skip p 25 signs h)
+holds p h Or = and_left (p Or) (all p (skip 27 signs)) (all_skip p 26 signs h)
+holds p h OpenBrace = and_left (p OpenBrace) (all p (skip 28 signs)) (all_skip p 27 signs h)
+holds p h CloseBrace = and_left (p CloseBrace) (all p (skip 29 signs)) (all_skip p 28 signs h)
+holds p h Open = and_left (p Open) (all p (skip 30 signs)) (all_skip p 29 signs h)
+holds p h Close = and_left (p Close) (all p (skip 31 signs)) (all_skip p 30 signs h)
+holds p h Semicolon = and_left (p Semicolon) (all p (skip 32 signs)) (all_skip p 31 signs h)
+holds p h Comma = and_left (p Comma) (all p (skip 33 signs)) (all_skip p 32 signs h)
+holds p h Star = and_left (p Star) (all p (skip 34 signs)) (all_skip p 33 signs h)
+holds p h Assign = and_left (p Assign) (all p (skip 35 signs)) (all_skip p 34 signs h)
+holds p h Not = and_left (p Not) (all p (skip 36 signs)) (all_skip p 35 signs h)
+holds p h Other = and_left (p Other) (all p (skip 37 signs)) (all_skip p 36 signs h)
+holds p h End = and_left (p End) (all p (skip 38 signs)) (all_skip p 37 signs h)
 
 abbrev pub implies : Bool → Bool → Bool
 implies true b = b

@@ -6,11 +6,11 @@ use Rattle.std.proofs.lemmas.List.{append-nil}
 use Rattle.fore_base.specs.declared.place.Place.{Place}
 use Rattle.c_ast.specs.declared.operands.Name.{Name}
 use Rattle.c_lexer.specs.declared.token.Token.{Token}
-use Rattle.c_grammar.specs.Grammar.{Part, Rule, token, ◌then◌, Many, Made}
+use Rattle.c_grammar.specs.Grammar.{Part, Rule, token, Many, Made}
 use Rattle.c_grammar.specs.words.Sets.{Signs, among, no_sign}
 use Rattle.c_grammar.specs.Signs.{sign_of, sign_at}
 use Rattle.c_grammar.specs.Items.{more_names}
-use Rattle.c_grammar.specs.Syntax.{name, first, second, optional}
+use Rattle.c_grammar.specs.Syntax.{name, first, second, behind, optional}
 use Rattle.c_grammar.specs.declared.signs.Sign.TheVariants as sign
 use Rattle.c_grammar.specs.Hopeless.{place_at}
 use Rattle.c_grammar.specs.Signs.{same_sign}
@@ -19,6 +19,7 @@ use Rattle.c_grammar.specs.words.Faults.Fails.{stuck, sunk, no_memory}
 use Rattle.c_grammar.specs.declared.fault.SyntaxFault.{SyntaxFault}
 use Rattle.c_grammar.specs.declared.fault.SyntaxFault.TheVariants.{Syntax}
 use Rattle.c_grammar.specs.declared.signs.Sign.{Sign}
+use Rattle.c_grammar.proofs.Families.{make, and_then}
 use Rattle.c_grammar.proofs.Tokens.{sample, sampled, real}
 use Rattle.c_grammar.proofs.Rules.{Good, Front, IsCons, opener_after}
 use Rattle.c_grammar.proofs.Parts.{Same, good_same, fails_first, fails_made, fails_same, takes_made, takes_same}
@@ -43,22 +44,26 @@ Endings n ts rest p = Ending ts rest p.0 p.1.0 p.1.1
 abbrev pub begins : Signs
 begins = among (sign.Comma ∷ (sign.CloseBrace ∷ []))
 
+-- a token has one sign
+differ : (p : Signs) (x : Token) (a b : Sign) → sign_of x ≡ a → sign_of x ≡ b → p a ≡ true → p b ≡ false → ⊥
+differ p x a b e f on off = clash (sym on ∙ ap p (sym e ∙ f) ∙ off)
+
 ending_det : (ts a b : List Token) (xs ys : List Name) (c d : Option Token) (e f : Token) → Ending ts a xs c e
     → Ending ts b ys d f → (a ≡ b) × (xs ≡ ys) × (c ≡ d) × (e ≡ f)
 ending_det ts a b xs ys c d e f (closed p) (closed q) = (refl, refl, refl, refl)
 ending_det ts a b xs ys c d e f (closed p) (trailing q r) =
-    absurd (clash (sym (ap (among (sign.CloseBrace ∷ [])) p) ∙ ap (among (sign.CloseBrace ∷ [])) q))
+    absurd (differ (among (sign.CloseBrace ∷ [])) _ _ _ p q refl refl)
 ending_det ts a b xs ys c d e f (closed p) (another q r s t) =
-    absurd (clash (sym (ap (among (sign.CloseBrace ∷ [])) p) ∙ ap (among (sign.CloseBrace ∷ [])) q))
+    absurd (differ (among (sign.CloseBrace ∷ [])) _ _ _ p q refl refl)
 ending_det ts a b xs ys c d e f (trailing p q) (closed r) =
-    absurd (clash (sym (ap (among (sign.CloseBrace ∷ [])) r) ∙ ap (among (sign.CloseBrace ∷ [])) p))
+    absurd (differ (among (sign.CloseBrace ∷ [])) _ _ _ r p refl refl)
 ending_det ts a b xs ys c d e f (trailing p q) (trailing r s) = (refl, refl, refl, refl)
 ending_det ts a b xs ys c d e f (trailing p q) (another r s t u) =
-    absurd (clash (sym (ap (among (sign.CloseBrace ∷ [])) q) ∙ ap (among (sign.CloseBrace ∷ [])) s))
+    absurd (differ (among (sign.CloseBrace ∷ [])) _ _ _ q s refl refl)
 ending_det ts a b xs ys c d e f (another p q r s) (closed t) =
-    absurd (clash (sym (ap (among (sign.CloseBrace ∷ [])) t) ∙ ap (among (sign.CloseBrace ∷ [])) p))
+    absurd (differ (among (sign.CloseBrace ∷ [])) _ _ _ t p refl refl)
 ending_det ts a b xs ys c d e f (another p q r s) (trailing t u) =
-    absurd (clash (sym (ap (among (sign.CloseBrace ∷ [])) u) ∙ ap (among (sign.CloseBrace ∷ [])) q))
+    absurd (differ (among (sign.CloseBrace ∷ [])) _ _ _ u q refl refl)
 ending_det ts a b xs ys c d e f (another {ts = us} {xs = vs} p q r s) (another {xs = ws} t u v w) =
     let h = ending_det us a b vs ws c d e f s w in (h.0, λ i. (r ∙ sym v) i ∷ h.1 i, h.2, h.3)
 
@@ -92,32 +97,15 @@ good_endings = record {
 
 from_ending : (ts rest : List Token) (xs : List Name) (c : Option Token) (b : Token) → Ending ts rest xs c b
     → written ts rest (xs, (c, b))
-from_ending ts rest xs c b (closed p) =
-    record {
-      mid = b ∷ rest;
-      front = Many.none;
-      back = record { mid = b ∷ rest; front = inr (refl, refl); back = (refl, p) };
-    }
+from_ending ts rest xs c b (closed p) = and_then (b ∷ rest) Many.none (and_then (b ∷ rest) (inr (refl, refl)) (refl, p))
 from_ending ts rest xs c b (trailing {t = t} p q) =
-    record {
-      mid = t ∷ (b ∷ rest);
-      front = Many.none;
-      back =
-          record { mid = b ∷ rest; front = inl (record { part = t; read = (refl, p); is = refl }); back = (refl, q) };
-    }
+    and_then (t ∷ (b ∷ rest)) Many.none (and_then (b ∷ rest) (inl (make {x = t} Some (refl, p))) (refl, q))
 from_ending ts rest xs c b (another {ts = us} {t = t} {w = w} {xs = vs} {x = x} p q r s) =
     let e = from_ending us rest vs c b s in
-    record {
-      mid = e.mid;
-      front = Many.more {mid = us}
-          (record {
-            part = (t, x);
-            is = refl;
-            read = record { mid = w ∷ us; front = (refl, p); back = record { part = w; read = (refl, q); is = r } };
-          })
-          e.front;
-      back = e.back;
-    }
+    and_then e.mid
+    (Many.more {mid = us}
+    (make {x = (t, x)} second (and_then (w ∷ us) (refl, p) (record { part = w; read = (refl, q); is = r }))) e.front)
+    e.back
 
 at_end : (ts m rest : List Token) (c : Option Token) (b : Token) → optional (token sign.Comma) ts m c
     → token sign.CloseBrace m rest b → Ending ts rest [] c b
@@ -128,7 +116,7 @@ at_end ts m rest c b (inr r) k =
     subst (λ c. Ending ts rest [] c b) (sym r.1) (subst (λ l. Ending l rest [] None b) (sym (r.0 ∙ k.0)) (closed k.1))
 
 to_ending : (ts mid m rest : List Token) (xs : List Name) (c : Option Token) (b : Token)
-    → Many (Made second (token sign.Comma then name)) ts mid xs → optional (token sign.Comma) mid m c →
+    → Many (behind sign.Comma name) ts mid xs → optional (token sign.Comma) mid m c →
     token sign.CloseBrace m rest b → Ending ts rest xs c b
 to_ending ts mid m rest xs c b Many.none o k = at_end ts m rest c b o k
 to_ending ts mid m rest xs c b (Many.more {mid = us} {x = x} {xs = vs} r rs) o k =
@@ -143,10 +131,6 @@ same_endings = record {
 
 pub good_written : Good (λ n. written) begins no_sign no_sign false
 good_written = good_same same_endings good_endings
-
--- one comma after another, read by steps
-differ : (p : Signs) (x : Token) (a b : Sign) → sign_of x ≡ a → sign_of x ≡ b → p a ≡ true → p b ≡ false → ⊥
-differ p x a b e f on off = clash (sym on ∙ ap p (sym e ∙ f) ∙ off)
 
 -- after a comma and a name, the names go on
 module _ (t w : Token) (comma : sign_of t ≡ sign.Comma) (word : sign_of w ≡ sign.Id) where
@@ -306,9 +290,6 @@ walks_more n end ts mid after xs t w x walks is comma word named = record {
 }
 
 -- the same of the rule as it is written
-abbrev pub Written : Rule (List Name × (Option Token × Token))
-Written n = more_names
-
 same_written : Same (λ n. more_names) Endings
 same_written = record { to = same_endings.back; back = same_endings.to }
 
@@ -330,12 +311,6 @@ module _ (n : ℕ) (end : Place) (ts : List Token) where
       sign_at after ≢ sign.CloseBrace → Fails (λ n. more_names) no_sign no_sign no_sign n end ts e
   written_no_name after t e is comma told no_id other =
       fails_same same_endings e (no_name n end ts after t e is comma told no_id other)
-
--- one more name, by its comma and its word
-pub walks_next : (n : ℕ) (end : Place) (ts mid after : List Token) (xs : List Name) (t w : Token) (x : Name)
-    → Walks n end ts mid xs → mid ≡ t ∷ (w ∷ after) → sign_of t ≡ sign.Comma → sign_of w ≡ sign.Id →
-    x ≡ record { text = w.text; at = w.at } → Walks n end ts after (xs ++ x ∷ [])
-walks_next = walks_more
 
 module _ (n : ℕ) (end : Place) (ts mid : List Token) (xs : List Name) (w : Walks n end ts mid xs) where
   pub names_fails : (e : SyntaxFault) → Fails (λ n. more_names) no_sign no_sign no_sign n end mid e

@@ -6,22 +6,11 @@ use Rattle.c_lexer.specs.declared.token.Token.{Token}
 use Rattle.c_grammar.specs.Grammar.{Rule}
 use Rattle.c_grammar.specs.Hopeless.{IsWhole, IsAliveWithin, IsAlive, IsHopelessAt, IsSyntaxAt, IsDeepAt, opener}
 use Rattle.c_grammar.specs.Hopeless.{place_at}
+use Rattle.c_grammar.proofs.Rules.{first_or, rest_of}
 
 -- of two fronts of a list one is a front of the other
 abbrev Longer : List Token → List Token → List Token → List Token → Type 0
 Longer p x q y = (m : List Token) × (q ≡ p ++ m) × (x ≡ m ++ y)
-
-abbrev rest_of : List Token → List Token
-rest_of [] = []
-rest_of (t ∷ ts) = ts
-
-abbrev first_or : Token → List Token → Token
-first_or d [] = d
-first_or d (t ∷ ts) = t
-
-abbrev IsCons : List Token → Type 0
-IsCons [] = ⊥
-IsCons (t ∷ ts) = Unit {0}
 
 longer : (p q x y : List Token) → p ++ x ≡ q ++ y → Longer p x q y ⊎ Longer q y p x
 longer [] q x y e = inl (q, refl, e)

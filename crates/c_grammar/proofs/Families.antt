@@ -1,7 +1,7 @@
--- The parts of rules, for each number of levels.
-use Rattle.std.proofs.Common.{List}
+-- The parts of rules, for each number of levels, and readings put together from their pieces.
+use Rattle.std.proofs.Common.{List, refl}
 use Rattle.c_lexer.specs.declared.token.Token.{Token}
-use Rattle.c_grammar.specs.Grammar.{Rule, token, empty, ◌then◌, ◌or◌, Many, Made}
+use Rattle.c_grammar.specs.Grammar.{Part, Rule, token, empty, ◌then◌, ◌or◌, Many, Made}
 use Rattle.c_grammar.specs.declared.signs.Sign.{Sign}
 
 abbrev pub one : Sign → Rule Token
@@ -21,3 +21,10 @@ many A n = Many (A n)
 
 abbrev pub made : {X Y : Type 0} → (X → Y) → Rule X → Rule Y
 made f A n = Made f (A n)
+
+pub make : {X Y : Type 0} {A : Part X} {ts rest : List Token} {x : X} (f : X → Y) → A ts rest x → Made f A ts rest (f x)
+make {x = x} f r = record { part = x; read = r; is = refl }
+
+pub and_then : {X Y : Type 0} {A : Part X} {B : Part Y} {ts rest : List Token} {x : X} {y : Y} (mid : List Token)
+    → A ts mid x → B mid rest y → (A then B) ts rest (x, y)
+and_then mid r q = record { mid = mid; front = r; back = q }

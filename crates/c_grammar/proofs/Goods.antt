@@ -1,6 +1,6 @@
 -- The rules of the grammar are good.
 use Rattle.std.proofs.Common.{◌≡◌, ◌⊎◌, ◌<◌, ℕ, zero, suc, Bool, true, false, List, [], ◌∷◌, refl, sym, ap, ◌∙◌, subst}
-use Rattle.std.proofs.Common.{inl, inr, arith}
+use Rattle.std.proofs.Common.{Some, None, inl, inr, arith}
 use Rattle.c_ast.specs.declared.operands.Arrow.{Arrow}
 use Rattle.c_ast.specs.declared.operands.Call.{Call}
 use Rattle.c_ast.specs.declared.operands.Name.{Name}
@@ -8,20 +8,24 @@ use Rattle.c_ast.specs.declared.operands.Operand.{Operand}
 use Rattle.c_ast.specs.declared.operands.Operand.TheVariants as operand'
 use Rattle.c_lexer.specs.declared.token.Token.{Token}
 use Rattle.c_grammar.specs.Grammar.{Part, Rule, token, empty, nowhere, ◌then◌, ◌or◌, Many, Made, level}
-use Rattle.c_grammar.specs.words.Sets.{commas, opens, tails, operands_go_on, arguments_go_on, Signs, among, no_sign}
+use Rattle.c_grammar.specs.words.Sets.{opens, tails, operands_go_on, arguments_go_on, Signs, among, no_sign}
 use Rattle.c_grammar.specs.words.Sets.{arrows, names, operand_goes_on, begins_operand}
 use Rattle.c_grammar.specs.Syntax.{at, at_of, name, name_of, arrow, arrow_of, path, path_of, middle, series, joined}
-use Rattle.c_grammar.specs.Syntax.{second, arguments, call_with, call_of, call, operand_with, operand, argument}
+use Rattle.c_grammar.specs.Syntax.{behind, optional, second, arguments, call_with, call_of, call, operand_with, operand}
+use Rattle.c_grammar.specs.Syntax.{argument}
 use Rattle.c_grammar.specs.Syntax.{literal_part}
 use Rattle.c_grammar.specs.declared.signs.Sign.{Sign}
 use Rattle.c_grammar.specs.declared.signs.Sign.TheVariants as sign
 use Rattle.c_grammar.proofs.Decide.{holds, every, implies, inside, within, apart_of}
-use Rattle.c_grammar.proofs.Families.{one}
+use Rattle.c_grammar.proofs.Families.{one, make, and_then}
 use Rattle.c_grammar.proofs.Fix.{good_fix}
 use Rattle.c_grammar.proofs.Parts.{good_token, good_nothing, good_made, good_either, good_level, good_same, good_within}
+use Rattle.c_grammar.proofs.Parts.{cont_either}
 use Rattle.c_grammar.proofs.Parts.{Same}
-use Rattle.c_grammar.proofs.Repeats.{good_many}
-use Rattle.c_grammar.proofs.Rules.{Good, good_both}
+use Rattle.c_grammar.proofs.Repeats.{good_many, cont_many}
+use Rattle.c_grammar.proofs.Rules.{Good, cont_both}
+use Rattle.c_grammar.proofs.Steps.{Clear, Under, or_none, good_pair, good_chain, good_or}
+use Rattle.c_grammar.proofs.SignLemmas.{clash}
 use Rattle.c_grammar.specs.Signs.{or_on, same_sign}
 
 -- a rule with sets of signs that are given
@@ -48,46 +52,60 @@ pub good_name : Good (λ n. name) names no_sign no_sign false
 good_name = good_made (good_one sign.Id) name_of
 
 pub good_arrow : Good (λ n. arrow) arrows no_sign no_sign false
-good_arrow = named arrows no_sign no_sign
-    (good_made (good_both (good_at sign.Arrow) good_name (apart_of no_sign names refl)) arrow_of) refl refl refl
+good_arrow = good_made (good_chain (good_at sign.Arrow) good_name refl) arrow_of
 
 pub good_arrows : Good (λ n. Many arrow) arrows arrows no_sign true
-good_arrows = named arrows arrows no_sign
-    (good_many good_arrow (apart_of no_sign arrows refl) (apart_of no_sign arrows refl)) refl refl refl
+good_arrows = good_many good_arrow (apart_of no_sign arrows refl) (apart_of no_sign arrows refl)
 
 pub good_path : Good (λ n. path) names arrows no_sign false
-good_path = named names arrows no_sign
-    (good_made (good_both good_name good_arrows (apart_of no_sign arrows refl)) path_of) refl refl refl
+good_path = named _ _ _ (good_made (good_pair good_name good_arrows refl) path_of) refl refl refl
+
+-- a token, and a part behind it, which alone is kept; any number of those; and one part or more, with the token between
+-- two of them
+pub good_next : {X : Type 0} {A : Rule X} {fa ca ba : Signs} (word : Sign) → Good A fa ca ba false
+    → Good (λ n. behind word (A n)) (among (word ∷ [])) ca ba false
+good_next word ga = good_made (good_chain (good_one word) ga refl) second
+
+module _ {X : Type 0} {A : Rule X} {fa ca : Signs} (word : Sign) (ga : Good A fa ca no_sign false)
+    (clear : Clear ca (among (word ∷ []))) where
+  pub good_more : Good (λ n. Many (behind word (A n))) (among (word ∷ [])) (cont_many (among (word ∷ [])) ca) no_sign
+      true
+  good_more = good_many (good_next word ga) (apart_of ca (among (word ∷ [])) clear)
+      (apart_of no_sign (among (word ∷ [])) refl)
+
+  pub good_series : {cs : Signs} → Under (cont_both true ca (cont_many (among (word ∷ [])) ca)) cs
+      → Good (λ n. series word (A n)) fa cs no_sign false
+  good_series {cs = cs} wide =
+      good_within fa cs no_sign (λ s h. sym (or_none (fa s)) ∙ h)
+      (within (cont_both true ca (cont_many (among (word ∷ [])) ca)) cs wide) (λ s h. h)
+      (good_made (good_pair ga good_more clear) joined)
+
+-- a part that is not empty, or none
+pub good_or_empty : {X : Type 0} {A : Rule X} {fa ca cb : Signs} → Good A fa ca no_sign false → (v : X)
+    → Under (cont_either fa ca false no_sign no_sign true) cb → Good (λ n. A n or empty v) fa cb no_sign true
+good_or_empty {fa = fa} {ca = ca} {cb = cb} ga v wide =
+    good_within fa cb no_sign (λ s h. sym (or_none (fa s)) ∙ h)
+    (within (cont_either fa ca false no_sign no_sign true) cb wide) (λ s h. h)
+    (good_either ga (good_nothing v) (λ s h. absurd (clash (sym h))) refl)
+
+pub good_optional : {X : Type 0} {A : Rule X} {fa ca cb : Signs} → Good A fa ca no_sign false
+    → Under (cont_either fa ca false no_sign no_sign true) cb → Good (λ n. optional (A n)) fa cb no_sign true
+good_optional ga wide = good_or_empty (good_made ga Some) None wide
 
 -- a list of operands in brackets
 module _ {I : Rule Operand} (gi : Good I begins_operand operand_goes_on no_sign false) where
-  pub good_next_operand : Good (λ n. Made second (token sign.Comma then I n)) commas operand_goes_on no_sign false
-  good_next_operand = named commas operand_goes_on no_sign
-      (good_made (good_both (good_one sign.Comma) gi (apart_of no_sign begins_operand refl)) second) refl refl refl
-
-  pub good_more_operands : Good (λ n. Many (Made second (token sign.Comma then I n))) commas operands_go_on no_sign true
-  good_more_operands = named commas operands_go_on no_sign
-      (good_many good_next_operand (apart_of operand_goes_on commas refl) (apart_of no_sign commas refl)) refl refl refl
-
   pub good_operands : Good (λ n. series sign.Comma (I n)) begins_operand operands_go_on no_sign false
-  good_operands = named begins_operand operands_go_on no_sign
-      (good_made (good_both gi good_more_operands (apart_of operand_goes_on commas refl)) joined) refl refl refl
+  good_operands = good_series sign.Comma gi refl refl
 
   pub good_some_operands : Good (λ n. series sign.Comma (I n) or empty []) begins_operand arguments_go_on no_sign true
-  good_some_operands = named begins_operand arguments_go_on no_sign
-      (good_either good_operands (good_nothing []) (apart_of begins_operand no_sign refl) refl) refl refl refl
+  good_some_operands = good_or_empty good_operands [] refl
 
   pub good_closed_operands : Good (λ n. (series sign.Comma (I n) or empty []) then token sign.Close)
       (λ s. or_on (begins_operand s) (same_sign sign.Close s)) no_sign no_sign false
-  good_closed_operands = named (λ s. or_on (begins_operand s) (same_sign sign.Close s)) no_sign no_sign
-      (good_both good_some_operands (good_one sign.Close) (apart_of arguments_go_on (among (sign.Close ∷ [])) refl))
-      refl refl refl
+  good_closed_operands = named _ _ _ (good_pair good_some_operands (good_one sign.Close) refl) refl refl refl
 
   pub good_arguments : Good (λ n. arguments (I n)) opens no_sign no_sign false
-  good_arguments = named opens no_sign no_sign
-      (good_made
-      (good_both (good_one sign.Open) good_closed_operands
-      (apart_of no_sign (λ s. or_on (begins_operand s) (same_sign sign.Close s)) refl)) middle) refl refl refl
+  good_arguments = good_made (good_chain (good_one sign.Open) good_closed_operands refl) middle
 
 -- a path and a call begin alike: a name, and then operands in brackets or arrows
 abbrev pub Tail : Type 0
@@ -107,54 +125,37 @@ begins_literal = among (sign.Number ∷ (sign.Null ∷ (sign.True ∷ (sign.Fals
 
 pub good_tail : {R : Rule (List Operand)} → Good R opens no_sign no_sign false
     → Good (λ n. tail_part (R n)) tails tails no_sign true
-good_tail gr = named tails tails no_sign
-    (good_either (good_made gr inl) (good_made good_arrows inr) (apart_of opens arrows refl) refl) refl refl refl
+good_tail gr = named _ _ _ (good_or (good_made gr inl) (good_made good_arrows inr) refl refl) refl refl refl
 
 pub good_word : {R : Rule (List Operand)} → Good R opens no_sign no_sign false
     → Good (λ n. word_part (R n)) names tails no_sign false
-good_word gr = named names tails no_sign
-    (good_made (good_both good_name (good_tail gr) (apart_of no_sign tails refl)) word_of) refl refl refl
+good_word gr = named _ _ _ (good_made (good_pair good_name (good_tail gr) refl) word_of) refl refl refl
 
 pub good_literal : Good (λ n. literal_part) begins_literal no_sign no_sign false
-good_literal = named begins_literal no_sign no_sign
-    (good_either (good_made (good_made (good_one sign.Number) name_of) operand'.Number)
-    (good_either (good_made (good_at sign.Null) operand'.Null)
-    (good_either (good_made (good_at sign.True) operand'.True) (good_made (good_at sign.False) operand'.False)
-    (apart_of (among (sign.True ∷ [])) (among (sign.False ∷ [])) refl) refl)
-    (apart_of (among (sign.Null ∷ [])) (λ s. or_on (among (sign.True ∷ []) s) (among (sign.False ∷ []) s)) refl) refl)
-    (apart_of (among (sign.Number ∷ []))
-    (λ s. or_on (among (sign.Null ∷ []) s) (or_on (among (sign.True ∷ []) s) (among (sign.False ∷ []) s))) refl)
-    refl) refl refl refl
+good_literal = named _ _ _
+    (good_or (good_made (good_made (good_one sign.Number) name_of) operand'.Number)
+    (good_or (good_made (good_at sign.Null) operand'.Null)
+    (good_or (good_made (good_at sign.True) operand'.True) (good_made (good_at sign.False) operand'.False) refl refl)
+    refl refl) refl refl) refl refl refl
 
 abbrev pub factored : Part (List Operand) → Part Operand
 factored args = word_part args or literal_part
 
 pub good_factored : {R : Rule (List Operand)} → Good R opens no_sign no_sign false
     → Good (λ n. factored (R n)) begins_operand operand_goes_on no_sign false
-good_factored gr = named begins_operand operand_goes_on no_sign
-    (good_either (good_word gr) good_literal (apart_of names begins_literal refl) refl) refl refl refl
+good_factored gr = named _ _ _ (good_or (good_word gr) good_literal refl refl) refl refl refl
 
 -- both forms read the same
 pub to_factored : (args : Part (List Operand)) (ts rest : List Token) (x : Operand)
     → operand_with (Made call_of (name then args)) ts rest x → factored args ts rest x
 to_factored args ts rest x (inl r) = inl (record {
   part = (r.read.part.0, inr r.read.part.1);
-  read =
-      record {
-        mid = r.read.read.mid;
-        front = r.read.read.front;
-        back = inr (record { part = r.read.part.1; read = r.read.read.back; is = refl });
-      };
+  read = and_then r.read.read.mid r.read.read.front (inr (make inr r.read.read.back));
   is = r.is ∙ ap operand'.Path r.read.is;
 })
 to_factored args ts rest x (inr (inl r)) = inl (record {
   part = (r.read.part.0, inl r.read.part.1);
-  read =
-      record {
-        mid = r.read.read.mid;
-        front = r.read.read.front;
-        back = inl (record { part = r.read.part.1; read = r.read.read.back; is = refl });
-      };
+  read = and_then r.read.read.mid r.read.read.front (inl (make inl r.read.read.back));
   is = r.is ∙ ap operand'.Call r.read.is;
 })
 to_factored args ts rest x (inr (inr r)) = inr r
@@ -164,12 +165,12 @@ from_word : (args : Part (List Operand)) (ts mid rest : List Token) (x : Operand
     operand_with (Made call_of (name then args)) ts rest x
 from_word args ts mid rest x head t is n (inl r) = inr (inl (record {
   part = call_of (head, r.part);
-  read = record { part = (head, r.part); read = record { mid = mid; front = n; back = r.read }; is = refl };
+  read = make call_of (and_then mid n r.read);
   is = is ∙ ap (λ v. word_of (head, v)) r.is;
 }))
 from_word args ts mid rest x head t is n (inr r) = inl (record {
   part = path_of (head, r.part);
-  read = record { part = (head, r.part); read = record { mid = mid; front = n; back = r.read }; is = refl };
+  read = make path_of (and_then mid n r.read);
   is = is ∙ ap (λ v. word_of (head, v)) r.is;
 })
 
@@ -259,7 +260,4 @@ pub same_call : Same (λ n. call_with (argument n)) call
 same_call = record { to = to_call; back = back_call }
 
 pub good_call : Good call names no_sign no_sign false
-good_call = good_same same_call
-    (named names no_sign no_sign
-    (good_made (good_both good_name (good_arguments good_argument) (apart_of no_sign opens refl)) call_of) refl refl
-    refl)
+good_call = good_same same_call (good_made (good_chain good_name (good_arguments good_argument) refl) call_of)

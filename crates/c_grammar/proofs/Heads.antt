@@ -1,43 +1,32 @@
--- The heads of `if`, `while` and `for`, read apart from the statement after them.
+-- The head of a `for`, and other heads, read apart from what stands after them.
 use Rattle.std.proofs.Common.{ℕ, false, [], ◌∷◌, refl, ap, ◌∙◌}
 use Rattle.c_ast.specs.declared.statements.Stmt.{Stmt}
 use Rattle.c_ast.specs.declared.statements.Stmt.TheVariants as stmt'
 use Rattle.c_grammar.specs.Grammar.{Rule, token, ◌then◌, Made}
 use Rattle.c_grammar.specs.Syntax as s
-use Rattle.c_grammar.specs.Syntax.{at, middle, bracketed, optional, cond, declare, simple, first_part, stmt}
+use Rattle.c_grammar.specs.Syntax.{at, bracketed, optional, cond, declare, simple, first_part, stmt}
 use Rattle.c_grammar.specs.declared.signs.Sign.TheVariants as sign
 use Rattle.c_grammar.specs.words.Parted.{HeadOfFor, for_head, for_head_of}
 use Rattle.c_grammar.specs.words.Faults.{Alive}
 use Rattle.c_grammar.specs.words.Sets.{among, no_sign}
-use Rattle.c_grammar.proofs.Goods.{named, good_one, good_at}
+use Rattle.c_grammar.proofs.Families.{make, and_then}
+use Rattle.c_grammar.proofs.Goods.{good_one, good_at}
 use Rattle.c_grammar.proofs.Conditions.{least_cond}
-use Rattle.c_grammar.proofs.Parts.{Same, good_made, alive_made}
+use Rattle.c_grammar.proofs.Parts.{Same, good_made}
 use Rattle.c_grammar.proofs.Rules.{Good}
-use Rattle.c_grammar.proofs.Sequences.{least_one, least_pair}
+use Rattle.c_grammar.proofs.Sequences.{least_one, least_pair, least_bracketed}
 use Rattle.c_grammar.proofs.Tokens.{real}
 use Rattle.c_grammar.proofs.Statements.{good_cond, good_closed_cond, good_first, good_maybe_cond, good_maybe_simple}
-use Rattle.c_grammar.proofs.Steps.{good_pair}
-
-pub good_if_head : Good (λ n. at sign.If then bracketed (cond n)) (among (sign.If ∷ [])) no_sign no_sign false
-good_if_head = named (among (sign.If ∷ [])) no_sign no_sign (good_pair (good_at sign.If) good_closed_cond refl) refl
-    refl refl
-
-pub good_while_head : Good (λ n. at sign.While then bracketed (cond n)) (among (sign.While ∷ [])) no_sign no_sign false
-good_while_head = named (among (sign.While ∷ [])) no_sign no_sign (good_pair (good_at sign.While) good_closed_cond refl)
-    refl refl refl
+use Rattle.c_grammar.proofs.Steps.{good_pair, good_chain}
 
 pub good_for_head : Good for_head (among (sign.For ∷ [])) no_sign no_sign false
-good_for_head = named (among (sign.For ∷ [])) no_sign no_sign
-    (good_made
-    (good_pair (good_at sign.For)
-    (good_pair (good_one sign.Open)
-    (good_pair good_first (good_pair good_maybe_cond (good_pair (good_one sign.Semicolon)
-    (good_pair good_maybe_simple (good_one sign.Close) refl) refl) refl) refl) refl) refl) for_head_of) refl refl refl
-
-pub good_do_tail : Good (λ n. token sign.While then bracketed (cond n) then token sign.Semicolon)
-    (among (sign.While ∷ [])) no_sign no_sign false
-good_do_tail = named (among (sign.While ∷ [])) no_sign no_sign
-    (good_pair (good_one sign.While) (good_pair good_closed_cond (good_one sign.Semicolon) refl) refl) refl refl refl
+good_for_head = good_made
+    (good_chain (good_at sign.For)
+    (good_chain (good_one sign.Open)
+    (good_chain good_first
+    (good_pair good_maybe_cond
+    (good_chain (good_one sign.Semicolon) (good_pair good_maybe_simple (good_one sign.Close) refl) refl) refl) refl)
+    refl) refl) for_head_of
 
 -- a head of two parts, and what stands after it
 abbrev pub apart : {X Y Z V : Type 0} → (X × (Y × Z) → V) → (X × Y) × Z → V
@@ -49,24 +38,12 @@ same_apart f = record {
   to = λ n ts rest x r. record {
     part = (r.part.0.0, (r.part.0.1, r.part.1));
     is = r.is;
-    read = record {
-      mid = r.read.front.mid;
-      front = r.read.front.front;
-      back = record {
-        mid = r.read.mid;
-        front = r.read.front.back;
-        back = r.read.back;
-      };
-    };
+    read = and_then r.read.front.mid r.read.front.front (and_then r.read.mid r.read.front.back r.read.back);
   };
   back = λ n ts rest x r. record {
     part = ((r.part.0, r.part.1.0), r.part.1.1);
     is = r.is;
-    read = record {
-      mid = r.read.back.mid;
-      front = record { mid = r.read.mid; front = r.read.front; back = r.read.back.front };
-      back = r.read.back.back;
-    };
+    read = and_then r.read.back.mid (and_then r.read.mid r.read.front r.read.back.front) r.read.back.back;
   };
 }
 
@@ -83,32 +60,8 @@ same_for = record {
       let d = c.back in let e = d.back in let g = e.back in record {
         part = (q.0, (q.1.0, (q.1.1.0, (q.1.1.1.0, (q.1.1.1.1.0, (q.1.1.1.1.1.0, (q.1.1.1.1.1.1, r.part.1)))))));
         is = r.is ∙ ap (λ h. headed_for (h, r.part.1)) h.is;
-        read = record {
-          mid = a.mid;
-          front = a.front;
-          back = record {
-            mid = b.mid;
-            front = b.front;
-            back = record {
-              mid = c.mid;
-              front = c.front;
-              back = record {
-                mid = d.mid;
-                front = d.front;
-                back = record {
-                  mid = e.mid;
-                  front = e.front;
-                  back =
-                      record {
-                        mid = g.mid;
-                        front = g.front;
-                        back = record { mid = r.read.mid; front = g.back; back = r.read.back };
-                      };
-                };
-              };
-            };
-          };
-        };
+        read = and_then a.mid a.front (and_then b.mid b.front (and_then c.mid c.front (and_then d.mid d.front
+            (and_then e.mid e.front (and_then g.mid g.front (and_then r.read.mid g.back r.read.back))))));
       };
   back = λ n ts rest x r. let q = r.part in let a = r.read in let b = a.back in let c = b.back in let d = c.back in
       let e = d.back in let g = e.back in let k = g.back in record {
@@ -117,49 +70,19 @@ same_for = record {
           q.1.1.1.1.1.1.1,
         );
         is = r.is;
-        read = record {
-          mid = k.mid;
-          front = record {
-            part = (q.0, (q.1.0, (q.1.1.0, (q.1.1.1.0, (q.1.1.1.1.0, (q.1.1.1.1.1.0, q.1.1.1.1.1.1.0))))));
-            is = refl;
-            read = record {
-              mid = a.mid;
-              front = a.front;
-              back = record {
-                mid = b.mid;
-                front = b.front;
-                back = record {
-                  mid = c.mid;
-                  front = c.front;
-                  back = record {
-                    mid = d.mid;
-                    front = d.front;
-                    back = record {
-                      mid = e.mid;
-                      front = e.front;
-                      back = record {
-                        mid = g.mid;
-                        front = g.front;
-                        back = k.front;
-                      };
-                    };
-                  };
-                };
-              };
-            };
-          };
-          back = k.back;
-        };
+        read = and_then k.mid
+            (make for_head_of (and_then a.mid a.front (and_then b.mid b.front (and_then c.mid c.front
+            (and_then d.mid d.front (and_then e.mid e.front (and_then g.mid g.front k.front))))))) k.back;
       };
 }
 
+pub least_closed_cond : (n : ℕ) → Alive (λ n. bracketed (cond n)) no_sign n []
+least_closed_cond n = least_bracketed good_cond refl n (least_cond n)
+
 pub least_do_tail : (n : ℕ)
     → Alive (λ n. token sign.While then bracketed (cond n) then token sign.Semicolon) no_sign n []
-least_do_tail n = least_pair (good_one sign.While) (good_pair good_closed_cond (good_one sign.Semicolon) refl) refl refl
-    n (least_one sign.While (real sign.While tt) n)
-    (least_pair good_closed_cond (good_one sign.Semicolon) refl refl n
-    (alive_made middle
-    (least_pair (good_one sign.Open) (good_pair good_cond (good_one sign.Close) refl) refl refl n
-    (least_one sign.Open (real sign.Open tt) n)
-    (least_pair good_cond (good_one sign.Close) refl refl n (least_cond n)
-    (least_one sign.Close (real sign.Close tt) n)))) (least_one sign.Semicolon (real sign.Semicolon tt) n))
+least_do_tail n =
+    least_pair (good_one sign.While) (good_chain good_closed_cond (good_one sign.Semicolon) refl) refl refl n
+    (least_one sign.While (real sign.While tt) n)
+    (least_pair good_closed_cond (good_one sign.Semicolon) refl refl n (least_closed_cond n)
+    (least_one sign.Semicolon (real sign.Semicolon tt) n))

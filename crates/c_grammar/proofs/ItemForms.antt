@@ -14,12 +14,14 @@ use Rattle.c_ast.specs.declared.statements.Data.TheVariants as data'
 use Rattle.c_ast.specs.declared.statements.Declare.TheVariants as declare'
 use Rattle.c_lexer.specs.declared.token.Token.{Token}
 use Rattle.c_grammar.specs.Grammar.{token}
-use Rattle.c_grammar.specs.Items.{rtype, closed_params, head, head_of, item, unit}
-use Rattle.c_grammar.specs.Syntax.{at, name, optional, data_part, declarator_of, declare}
+use Rattle.c_grammar.specs.Items.{rtype, return_pointer_of, closed_params, head, head_of, item, unit}
+use Rattle.c_grammar.specs.Syntax.{at, name, second, joined, optional, data_part, enum_of, declarator_of, pointers_of}
+use Rattle.c_grammar.specs.Syntax.{datums_of}
+use Rattle.c_grammar.specs.Syntax.{declare}
 use Rattle.c_grammar.specs.words.Sets.{no_sign, elses}
 use Rattle.c_grammar.specs.declared.signs.Sign.TheVariants as sign
 use Rattle.c_grammar.proofs.Decide.{apart_of}
-use Rattle.c_grammar.proofs.Goods.{named}
+use Rattle.c_grammar.proofs.Families.{make, and_then}
 use Rattle.c_grammar.proofs.Parts.{Same, good_same}
 use Rattle.c_grammar.proofs.Repeats.{good_many}
 use Rattle.c_grammar.proofs.Rules.{Good}
@@ -27,7 +29,8 @@ use Rattle.c_grammar.proofs.Items.{good_parted}
 use Rattle.c_grammar.proofs.Whole.{one_tree}
 use Rattle.c_grammar.specs.Hopeless.{IsWhole}
 use Rattle.c_ast.specs.declared.statements.Declare.{Declare}
-use Rattle.c_grammar.specs.words.Parted.{ending, Rest, data_rest, pointer_rest, head_item, data_item, pointer_item}
+use Rattle.c_grammar.specs.words.Parted.{ending, no_block, Rest, data_rest, pointer_rest, head_item, data_item}
+use Rattle.c_grammar.specs.words.Parted.{pointer_item}
 use Rattle.c_grammar.specs.words.Parted.{EnumRest, enum_rest, enum_item_of, StructRest, struct_rest, struct_item_of}
 use Rattle.c_grammar.specs.words.Parted.{parted_item, begins_item}
 
@@ -39,66 +42,26 @@ module _ (n : ℕ) (ts rest : List Token) (x : Item) where
   from_head g v ps e m k l is r f c (inl z) = inr (inr (inl (record {
     part = (None, (head_of (g, (v, ps)), z.part));
     is = is ∙ ap (λ e. head_item g v (ps, e)) z.is;
-    read = record {
-      mid = ts;
-      front = inr (refl, refl);
-      back =
-          record {
-            mid = l;
-            front = record {
-              part = (g, (v, ps));
-              is = refl;
-              read = record { mid = m; front = r; back = record { mid = k; front = f; back = c } };
-            };
-            back = z.read;
-          };
-    };
+    read = and_then ts (inr (refl, refl)) (and_then l (make head_of (and_then m r (and_then k f c))) z.read);
   })))
   from_head g v ps e m k l is r f c (inr z) = inr (inr (inr (inl (record {
     part = (head_of (g, (v, ps)), z.part);
     is = is ∙ ap (λ e. head_item g v (ps, e)) z.is;
-    read = record {
-      mid = l;
-      front =
-          record {
-            part = (g, (v, ps));
-            is = refl;
-            read = record { mid = m; front = r; back = record { mid = k; front = f; back = c } };
-          };
-      back = z.read;
-    };
+    read = and_then l (make head_of (and_then m r (and_then k f c))) z.read;
   }))))
 
   from_data : (d : Data) (v : Name) (q : Rest) (m k : List Token) → x ≡ data_item d v q → data_part ts m d → name m k v
       → data_rest n k rest q → item n ts rest x
   from_data d v q m k is p f (inl z) =
       from_head (return'.Data d) v z.part.0 z.part.1 m k z.read.mid (is ∙ ap (λ q. data_item d v q) z.is)
-      (inr (inl (record { part = d; is = refl; read = p }))) f z.read.front z.read.back
+      (inr (inl (make return'.Data p))) f z.read.front z.read.back
   from_data d v q m k is p f (inr z) = inr (inr (inr (inr (record {
     part = declare'.Datums d (declarator_of (v, z.part.0) ∷ z.part.1.0);
     is = is ∙ ap (λ q. data_item d v q) z.is;
-    read = inr (record {
-      part = (d, (declarator_of (v, z.part.0) ∷ z.part.1.0, z.part.1.1));
-      is = refl;
-      read = record {
-        mid = m;
-        front = p;
-        back = record {
-          mid = z.read.back.mid;
-          front = record {
-            part = (declarator_of (v, z.part.0), z.part.1.0);
-            is = refl;
-            read = record {
-              mid = z.read.mid;
-              front =
-                  record { part = (v, z.part.0); is = refl; read = record { mid = k; front = f; back = z.read.front } };
-              back = z.read.back.front;
-            };
-          };
-          back = z.read.back.back;
-        };
-      };
-    });
+    read = inr (make datums_of (and_then m p
+        (and_then z.read.back.mid
+        (make joined (and_then z.read.mid (make declarator_of (and_then k f z.read.front)) z.read.back.front))
+        z.read.back.back)));
   }))))
 
   from_pointer : (p : Place) (t v : Name) (star : Token) (q : Rest) (m k j l : List Token) → x ≡ pointer_item p t v q
@@ -106,72 +69,29 @@ module _ (n : ℕ) (ts rest : List Token) (x : Item) where
       pointer_rest n l rest q → item n ts rest x
   from_pointer p t v star q m k j l is a tn st vn (inl z) =
       from_head (return'.Pointer p t) v z.part.0 z.part.1 j l z.read.mid (is ∙ ap (λ q. pointer_item p t v q) z.is)
-      (inr
-      (inr
-      (record {
-        part = (p, (t, star));
-        is = refl;
-        read = record { mid = m; front = a; back = record { mid = k; front = tn; back = st } };
-      }))) vn z.read.front
-      z.read.back
+      (inr (inr (make return_pointer_of (and_then m a (and_then k tn st))))) vn z.read.front z.read.back
   from_pointer p t v star q m k j l is a tn st vn (inr z) = inr (inr (inr (inr (record {
     part = declare'.Pointers p t (declarator_of (v, z.part.0) ∷ z.part.1.0);
     is = is ∙ ap (λ q. pointer_item p t v q) z.is;
-    read = inl (record {
-      part = (p, (t, (declarator_of (v, z.part.0) ∷ z.part.1.0, z.part.1.1)));
-      is = refl;
-      read = record {
-        mid = m;
-        front = a;
-        back = record {
-          mid = k;
-          front = tn;
-          back = record {
-            mid = z.read.back.mid;
-            front = record {
-              part = (declarator_of (v, z.part.0), z.part.1.0);
-              is = refl;
-              read = record {
-                mid = z.read.mid;
-                front = record {
-                  part = (star, declarator_of (v, z.part.0));
-                  is = refl;
-                  read =
-                      record {
-                        mid = j;
-                        front = st;
-                        back =
-                            record {
-                              part = (v, z.part.0);
-                              is = refl;
-                              read = record { mid = l; front = vn; back = z.read.front };
-                            };
-                      };
-                };
-                back = z.read.back.front;
-              };
-            };
-            back = z.read.back.back;
-          };
-        };
-      };
-    });
+    read = inl (make pointers_of (and_then m a (and_then k tn
+        (and_then z.read.back.mid
+        (make joined
+        (and_then z.read.mid (make second (and_then j st (make declarator_of (and_then l vn z.read.front))))
+        z.read.back.front)) z.read.back.back))));
   }))))
 
   from_enum : (p : Place) (v : Name) (q : EnumRest) (m k : List Token) → x ≡ enum_item_of (p, (v, q))
       → at sign.Enum ts m p → name m k v → enum_rest n k rest q → item n ts rest x
-  from_enum p v q m k is a f (inl z) =
-      inr
+  from_enum p v q m k is a f (inl z) = inr
       (inl
       (record {
         part = (p, (v, z.part));
         is = is ∙ ap (λ q. enum_item_of (p, (v, q))) z.is;
-        read = record { mid = m; front = a; back = record { mid = k; front = f; back = z.read } };
+        read = and_then m a (and_then k f z.read);
       }))
   from_enum p v q m k is a f (inr z) =
       from_data (data'.Enum p v) z.part.0 z.part.1 k z.read.mid (is ∙ ap (λ q. enum_item_of (p, (v, q))) z.is)
-      (inr (record { part = (p, v); is = refl; read = record { mid = m; front = a; back = f } })) z.read.front
-      z.read.back
+      (inr (make enum_of (and_then m a f))) z.read.front z.read.back
 
   from_struct : (p : Place) (v : Name) (q : StructRest) (m k : List Token) → x ≡ struct_item_of (p, (v, q))
       → at sign.Struct ts m p → name m k v → struct_rest n k rest q → item n ts rest x
@@ -180,7 +100,7 @@ module _ (n : ℕ) (ts rest : List Token) (x : Item) where
       (record {
         part = (p, (v, z.part));
         is = is ∙ ap (λ q. struct_item_of (p, (v, q))) z.is;
-        read = record { mid = m; front = a; back = record { mid = k; front = f; back = z.read } };
+        read = and_then m a (and_then k f z.read);
       })
   from_struct p v q m k is a f (inr z) =
       from_pointer p v z.part.1.0 z.part.0 z.part.1.1 m k z.read.mid z.read.back.mid
@@ -193,21 +113,16 @@ module _ (n : ℕ) (ts rest : List Token) (x : Item) where
       (record {
         part = (Some r.part.0, r.part.1);
         is = r.is;
-        read =
-            record {
-              mid = r.read.mid;
-              front = inl (record { part = r.part.0; is = refl; read = r.read.front });
-              back = r.read.back;
-            };
+        read = and_then r.read.mid (inl (make Some r.read.front)) r.read.back;
       })))
   from_parted (inr (inl r)) =
       from_head (return'.Void r.part.0) r.part.1.0 r.part.1.1.0 r.part.1.1.1 r.read.mid r.read.back.mid
       r.read.back.back.mid r.is
-      (inl (record { part = r.part.0; is = refl; read = r.read.front })) r.read.back.front r.read.back.back.front
+      (inl (make return'.Void r.read.front)) r.read.back.front r.read.back.back.front
       r.read.back.back.back
   from_parted (inr (inr (inl r))) =
       from_data (data'.Int r.part.0) r.part.1.0 r.part.1.1 r.read.mid r.read.back.mid r.is
-      (inl (record { part = r.part.0; is = refl; read = r.read.front })) r.read.back.front r.read.back.back
+      (inl (make data'.Int r.read.front)) r.read.back.front r.read.back.back
   from_parted (inr (inr (inr (inl r)))) =
       from_enum r.part.0 r.part.1.0 r.part.1.1 r.read.mid r.read.back.mid r.is r.read.front r.read.back.front
       r.read.back.back
@@ -219,27 +134,18 @@ module _ (n : ℕ) (ts rest : List Token) (x : Item) where
 module _ (n : ℕ) (ts rest : List Token) (x : Item) where
   to_data : (d : Data) (v : Name) (q : Rest) (m k : List Token) → x ≡ data_item d v q → data_part ts m d → name m k v
       → data_rest n k rest q → parted_item n ts rest x
-  to_data d v q m k is (inl z) f r =
-      inr
+  to_data d v q m k is (inl z) f r = inr
       (inr
       (inl
       (record {
         part = (z.part, (v, q));
         is = is ∙ ap (λ d. data_item d v q) z.is;
-        read = record { mid = m; front = z.read; back = record { mid = k; front = f; back = r } };
+        read = and_then m z.read (and_then k f r);
       })))
   to_data d v q m k is (inr z) f r = inr (inr (inr (inl (record {
     part = (z.part.0, (z.part.1, inr (v, q)));
     is = is ∙ ap (λ d. data_item d v q) z.is;
-    read = record {
-      mid = z.read.mid;
-      front = z.read.front;
-      back = record {
-        mid = m;
-        front = z.read.back;
-        back = inr (record { part = (v, q); is = refl; read = record { mid = k; front = f; back = r } });
-      };
-    };
+    read = and_then z.read.mid z.read.front (and_then m z.read.back (inr (make inr (and_then k f r))));
   }))))
 
   to_pointer : (p : Place) (t v : Name) (star : Token) (q : Rest) (m k j l : List Token) → x ≡ pointer_item p t v q
@@ -248,19 +154,7 @@ module _ (n : ℕ) (ts rest : List Token) (x : Item) where
   to_pointer p t v star q m k j l is a tn st vn r = inr (inr (inr (inr (record {
     part = (p, (t, inr (star, (v, q))));
     is = is;
-    read = record {
-      mid = m;
-      front = a;
-      back = record {
-        mid = k;
-        front = tn;
-        back = inr (record {
-          part = (star, (v, q));
-          is = refl;
-          read = record { mid = j; front = st; back = record { mid = l; front = vn; back = r } };
-        });
-      };
-    };
+    read = and_then m a (and_then k tn (inr (make inr (and_then j st (and_then l vn r)))));
   }))))
 
   to_head : (g : ReturnType) (v : Name) (ps : Option Params) (e : Option Block) (m k l : List Token)
@@ -269,24 +163,16 @@ module _ (n : ℕ) (ts rest : List Token) (x : Item) where
   to_head g v ps e m k l is (inl z) f c b = inr (inl (record {
     part = (z.part, (v, (ps, e)));
     is = is ∙ ap (λ g. head_item g v (ps, e)) z.is;
-    read = record {
-      mid = m;
-      front = z.read;
-      back = record {
-        mid = k;
-        front = f;
-        back = record { mid = l; front = c; back = b };
-      };
-    };
+    read = and_then m z.read (and_then k f (and_then l c b));
   }))
   to_head g v ps e m k l is (inr (inl z)) f c b =
       to_data z.part v (inl (ps, e)) m k (is ∙ ap (λ g. head_item g v (ps, e)) z.is) z.read f
-      (inl (record { part = (ps, e); is = refl; read = record { mid = l; front = c; back = b } }))
+      (inl (make inl (and_then l c b)))
   to_head g v ps e m k l is (inr (inr z)) f c b =
       to_pointer z.part.0 z.part.1.0 v z.part.1.1 (inl (ps, e)) z.read.mid z.read.back.mid m k
       (is ∙ ap (λ g. head_item g v (ps, e)) z.is)
       z.read.front z.read.back.front z.read.back.back f
-      (inl (record { part = (ps, e); is = refl; read = record { mid = l; front = c; back = b } }))
+      (inl (make inl (and_then l c b)))
 
   to_of_head : (h : Head) (e : Option Block) (l : List Token) → head ts l h
       → x ≡ elim e [ None ↦ item'.Proto None h | Some b ↦ item'.Function h b ] → ending n l rest e
@@ -303,11 +189,11 @@ module _ (n : ℕ) (ts rest : List Token) (x : Item) where
       (record {
         part = (z.part, (h, semi));
         is = is ∙ ap (λ o. item'.Proto o h) z.is;
-        read = record { mid = m; front = z.read; back = record { mid = l; front = r; back = b } };
+        read = and_then m z.read (and_then l r b);
       })
   to_proto o h semi m l is (inr z) r b =
       to_of_head h None l (subst (λ t. head t l h) (sym z.0) r) (is ∙ ap (λ o. item'.Proto o h) z.1)
-      (inl (record { part = semi; is = refl; read = b }))
+      (inl (make no_block b))
 
   to_declare : (d : Declare) → x ≡ item'.Declare d → declare n ts rest d → parted_item n ts rest x
   to_declare d is (inl z) = let y = z.read.back.back.front in let w = y.read.front in let u = w.read.back in
@@ -317,66 +203,33 @@ module _ (n : ℕ) (ts rest : List Token) (x : Item) where
       ∙ ap item'.Declare (z.is
       ∙ ap (λ l. declare'.Pointers z.part.0 z.part.1.0 l) (y.is ∙ ap (λ d. d ∷ y.part.1) (w.is ∙ u.is))))
       z.read.front z.read.back.front w.read.front u.read.front
-      (inr
-      (record {
-        part = (u.part.1, (y.part.1, z.part.1.1.1));
-        is = refl;
-        read =
-            record {
-              mid = y.read.mid;
-              front = u.read.back;
-              back = record { mid = z.read.back.back.mid; front = y.read.back; back = z.read.back.back.back };
-            };
-      }))
+      (inr (make inr (and_then y.read.mid u.read.back (and_then z.read.back.back.mid y.read.back
+      z.read.back.back.back))))
   to_declare d is (inr z) = let y = z.read.back.front in let u = y.read.front in
       to_data z.part.0 u.part.0 (inr (u.part.1, (y.part.1, z.part.1.1))) z.read.mid u.read.mid
       (is ∙ ap item'.Declare (z.is ∙ ap (λ l. declare'.Datums z.part.0 l) (y.is ∙ ap (λ d. d ∷ y.part.1) u.is)))
       z.read.front u.read.front
-      (inr
-      (record {
-        part = (u.part.1, (y.part.1, z.part.1.1));
-        is = refl;
-        read =
-            record {
-              mid = y.read.mid;
-              front = u.read.back;
-              back = record { mid = z.read.back.mid; front = y.read.back; back = z.read.back.back };
-            };
-      }))
+      (inr (make inr (and_then y.read.mid u.read.back (and_then z.read.back.mid y.read.back z.read.back.back))))
 
   to_parted : item n ts rest x → parted_item n ts rest x
   to_parted (inl r) = inr (inr (inr (inr (record {
     part = (r.part.0, (r.part.1.0, inl r.part.1.1));
     is = r.is;
-    read = record {
-      mid = r.read.mid;
-      front = r.read.front;
-      back = record {
-        mid = r.read.back.mid;
-        front = r.read.back.front;
-        back = inl (record { part = r.part.1.1; is = refl; read = r.read.back.back });
-      };
-    };
+    read = and_then r.read.mid r.read.front (and_then r.read.back.mid r.read.back.front (inl
+        (make inl r.read.back.back)));
   }))))
   to_parted (inr (inl r)) = inr (inr (inr (inl (record {
     part = (r.part.0, (r.part.1.0, inl r.part.1.1));
     is = r.is;
-    read = record {
-      mid = r.read.mid;
-      front = r.read.front;
-      back = record {
-        mid = r.read.back.mid;
-        front = r.read.back.front;
-        back = inl (record { part = r.part.1.1; is = refl; read = r.read.back.back });
-      };
-    };
+    read = and_then r.read.mid r.read.front (and_then r.read.back.mid r.read.back.front (inl
+        (make inl r.read.back.back)));
   }))))
   to_parted (inr (inr (inl r))) =
       to_proto r.part.0 r.part.1.0 r.part.1.1 r.read.mid r.read.back.mid r.is r.read.front r.read.back.front
       r.read.back.back
   to_parted (inr (inr (inr (inl r)))) =
       to_of_head r.part.0 (Some r.part.1) r.read.mid r.read.front r.is
-      (inr (record { part = r.part.1; is = refl; read = r.read.back }))
+      (inr (make Some r.read.back))
   to_parted (inr (inr (inr (inr r)))) = to_declare r.part r.is r.read
 
 pub same_item : Same parted_item item
@@ -386,8 +239,7 @@ pub good_item : Good item begins_item no_sign elses false
 good_item = good_same same_item good_parted
 
 pub good_unit : Good unit begins_item begins_item elses true
-good_unit = named begins_item begins_item elses
-    (good_many good_item (apart_of no_sign begins_item refl) (apart_of elses begins_item refl)) refl refl refl
+good_unit = good_many good_item (apart_of no_sign begins_item refl) (apart_of elses begins_item refl)
 
 -- a list of tokens has at most one tree
 pub one_unit : (ts : List Token) (u v : List Item) → IsWhole unit ts u → IsWhole unit ts v → u ≡ v

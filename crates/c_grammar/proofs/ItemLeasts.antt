@@ -4,14 +4,18 @@ use Rattle.c_ast.specs.declared.items.ReturnType.TheVariants as return'
 use Rattle.c_ast.specs.declared.operands.Name.{Name}
 use Rattle.c_ast.specs.declared.statements.Data.TheVariants as data'
 use Rattle.c_lexer.specs.declared.token.Token.{Token}
-use Rattle.c_grammar.specs.Grammar.{Many}
+use Rattle.c_ast.specs.declared.statements.Declarator.{Declarator}
+use Rattle.c_grammar.specs.Grammar.{Rule, Many}
 use Rattle.c_grammar.specs.Items as i
 use Rattle.c_grammar.specs.Syntax as s
+use Rattle.c_grammar.specs.Syntax.{declarator}
 use Rattle.c_grammar.specs.declared.signs.Sign.TheVariants as sign
 use Rattle.c_grammar.specs.words.Faults.{Alive}
-use Rattle.c_grammar.specs.words.Parted.{ending, called, data_rest, pointer_rest, enum_rest, struct_rest, no_block}
+use Rattle.c_grammar.specs.words.Parted.{ending, called, data_rest, pointer_rest, rest_with, star_declarator, enum_rest}
+use Rattle.c_grammar.specs.words.Parted.{struct_rest, no_block}
 use Rattle.c_grammar.specs.words.Sets.{no_sign, elses}
-use Rattle.c_grammar.proofs.Readings.{tok, make, and_then, at_tok}
+use Rattle.c_grammar.proofs.Families.{make, and_then}
+use Rattle.c_grammar.proofs.Readings.{tok, at_tok}
 use Rattle.c_grammar.proofs.Tokens.{sample, real}
 
 abbrev a_name : Name
@@ -85,39 +89,30 @@ least_called n = record {
 }
 
 -- ;
-pub least_data_rest : (n : ℕ) → Alive data_rest elses n []
-least_data_rest n = record {
+no_declared : (A : Rule Declarator) (n : ℕ) (y : List Token)
+    → rest_with A n (sample sign.Semicolon ∷ y) y (inr (None, ([], sample sign.Semicolon)))
+no_declared A n y = inr
+    (make inr (and_then _ (inr (refl, refl)) (and_then _ Many.none (tok sign.Semicolon (real sign.Semicolon tt) y))))
+
+least_rest_with : (A : Rule Declarator) (n : ℕ) → Alive (rest_with A) elses n []
+least_rest_with A n = record {
   more = sample sign.Semicolon ∷ [];
   tree = inr (None, ([], sample sign.Semicolon));
-  reads =
-      λ y h.
-      inr
-      (make inr (and_then _ (inr (refl, refl)) (and_then _ Many.none (tok sign.Semicolon (real sign.Semicolon tt) y))));
+  reads = λ y h. no_declared A n y;
 }
 
+pub least_data_rest : (n : ℕ) → Alive data_rest elses n []
+least_data_rest = least_rest_with declarator
+
 pub least_pointer_rest : (n : ℕ) → Alive pointer_rest elses n []
-least_pointer_rest n = record {
-  more = sample sign.Semicolon ∷ [];
-  tree = inr (None, ([], sample sign.Semicolon));
-  reads =
-      λ y h.
-      inr
-      (make inr (and_then _ (inr (refl, refl)) (and_then _ Many.none (tok sign.Semicolon (real sign.Semicolon tt) y))));
-}
+least_pointer_rest = least_rest_with star_declarator
 
 -- a ;
 pub least_enum_rest : (n : ℕ) → Alive enum_rest elses n []
 least_enum_rest n = record {
   more = sample sign.Id ∷ (sample sign.Semicolon ∷ []);
   tree = inr (a_name, inr (None, ([], sample sign.Semicolon)));
-  reads =
-      λ y h.
-      inr
-      (make inr
-      (and_then _ (named _)
-      (inr
-      (make inr
-      (and_then _ (inr (refl, refl)) (and_then _ Many.none (tok sign.Semicolon (real sign.Semicolon tt) y)))))));
+  reads = λ y h. inr (make inr (and_then _ (named _) (no_declared declarator n y)));
 }
 
 -- ;

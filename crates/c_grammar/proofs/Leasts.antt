@@ -10,9 +10,9 @@ use Rattle.c_grammar.specs.words.Faults.{Alive}
 use Rattle.c_grammar.specs.words.Parted.{inside_part, sized_part, after_part}
 use Rattle.c_grammar.specs.words.Sets.{Signs, no_sign}
 use Rattle.c_grammar.proofs.Conditions.{least_operand}
-use Rattle.c_grammar.proofs.Families.{one}
 use Rattle.c_grammar.proofs.Parts.{least_token, alive_made}
-use Rattle.c_grammar.proofs.Readings.{tok, make, and_then, at_tok}
+use Rattle.c_grammar.proofs.Families.{one, make, and_then}
+use Rattle.c_grammar.proofs.Readings.{tok, at_tok}
 use Rattle.c_grammar.proofs.Tokens.{sample, sampled, real}
 
 pub least_name : (n : ℕ) → Alive (λ n. syntax.name) no_sign n []

@@ -1,12 +1,12 @@
 -- Levels that are opened by their own first token.
-use Rattle.std.proofs.Common.{◌≡◌, ◌⊎◌, ◌≤◌, ℕ, zero, suc, Bool, true, false, List, [], ◌∷◌, ◌++◌, None, refl, sym, ap}
-use Rattle.std.proofs.Common.{◌∙◌, subst, append_assoc, inl, inr, arith}
+use Rattle.std.proofs.Common.{◌≡◌, ◌⊎◌, ℕ, zero, suc, Bool, true, false, List, [], ◌∷◌, ◌++◌, None, refl, sym, ap}
+use Rattle.std.proofs.Common.{◌∙◌, subst, append_assoc, inl, inr}
 use Rattle.fore_base.specs.declared.place.Place.{Place}
 use Rattle.c_ast.specs.declared.statements.First.TheVariants as first'
 use Rattle.c_ast.specs.declared.statements.Stmt.{Stmt}
 use Rattle.c_ast.specs.declared.statements.Stmt.TheVariants as stmt'
 use Rattle.c_lexer.specs.declared.token.Token.{Token}
-use Rattle.c_grammar.specs.Grammar.{Rule, Many}
+use Rattle.c_grammar.specs.Grammar.{Many}
 use Rattle.c_grammar.specs.Hopeless.{place_at}
 use Rattle.c_grammar.specs.Signs.{or_on, same_sign, sign_of, sign_at}
 use Rattle.c_grammar.specs.Syntax as s
@@ -15,44 +15,16 @@ use Rattle.c_grammar.specs.declared.fault.SyntaxFault.TheVariants.{Deep}
 use Rattle.c_grammar.specs.declared.signs.Sign.{Sign}
 use Rattle.c_grammar.specs.declared.signs.Sign.TheVariants as sign
 use Rattle.c_grammar.specs.words.Faults.{Alive, Fails}
-use Rattle.c_grammar.specs.words.Faults.Fails.{sunk}
-use Rattle.c_grammar.specs.words.Sets.{Signs, among, no_sign, elses}
+use Rattle.c_grammar.specs.words.Sets.{among, no_sign, elses}
 use Rattle.c_grammar.proofs.Conditions.{least_cond}
 use Rattle.c_grammar.proofs.Decide.{apart_of}
-use Rattle.c_grammar.proofs.Readings.{tok, make, and_then, at_tok}
+use Rattle.c_grammar.proofs.Parts.{deep_first}
+use Rattle.c_grammar.proofs.Families.{make, and_then}
+use Rattle.c_grammar.proofs.Readings.{tok, at_tok, at_told}
 use Rattle.c_grammar.proofs.SignLemmas.{clash, one_of}
 use Rattle.c_grammar.proofs.Statements.{good_flat}
 use Rattle.c_grammar.proofs.Tokens.{sample, real}
 use Rattle.c_grammar.specs.words.Parted.{begins_flat, begins_level}
-
--- where a level begins and none is left
-pub deep_first : {X : Type 0} (F : Rule X) (c ba hs : Signs) (end : Place) (ts : List Token) → hs (sign_at ts) ≡ true
-    → hs sign.End ≡ false → Alive F ba 0 [] →
-    ((t : Token) → hs (sign_of t) ≡ true → Alive F ba 1 (t ∷ [])) →
-    ((z y : List Token) (x : X) → hs (sign_at z) ≡ true → F 0 z y x → ⊥)
-    → Fails F c ba hs 0 end ts (Deep (place_at end ts))
-deep_first F c ba hs end [] first solid least on dead = absurd (clash (sym first ∙ solid))
-deep_first {X} F c ba hs end (t ∷ rest) first solid least on dead = sunk (record {
-  pre = [];
-  next = t;
-  post = rest;
-  is = refl;
-  place = refl;
-  early = λ e. first;
-  alive = least;
-  dead = within_none;
-  room = 1;
-  higher = omega arith;
-  deeper = on t first;
-})
-  where
-    within_none : (m : ℕ) → m ≤ 0 → (z y : List Token) (x : X) → sign_at z ≡ sign_of t → c (sign_at y) ≡ false
-        → F m z y x → ⊥
-    within_none zero le z y x same h r = dead z y x (ap hs same ∙ first) r
-    within_none (suc m) le z y x same h r = nope le
-      where
-        nope : suc m ≤ 0 → ⊥
-        nope l = omega (arith, l)
 
 -- a sign of a list is the first, or one of the others
 pub either_of : (s : Sign) (ss : List Sign) (x : Sign) → among (s ∷ ss) x ≡ true → (x ≡ s) ⊎ (among ss x ≡ true)
@@ -78,9 +50,6 @@ least_stmt n =
 
 -- a condition in brackets, with what stands after it
 module _ (t : Token) where
-  told : (s : Sign) → sign_of t ≡ s → (y : List Token) → at s (t ∷ y) y t.at
-  told s e y = record { part = t; is = refl; read = (refl, e) }
-
   c : Alive cond no_sign 0 []
   c = least_cond 0
 
@@ -115,7 +84,7 @@ module _ (t : Token) where
         (inl
         (make stmt'.Block
         (make s.block_of
-        (and_then _ (told sign.OpenBrace e _)
+        (and_then _ (at_told t sign.OpenBrace e _)
         (and_then _ Many.none (tok sign.CloseBrace (real sign.CloseBrace tt) y))))));
   }
 
@@ -135,7 +104,7 @@ module _ (t : Token) where
         (inr
         (inl
         (make s.if_of
-        (and_then _ (told sign.If e _)
+        (and_then _ (at_told t sign.If e _)
         (and_then (sample sign.Semicolon ∷ y)
         (subst (λ l. s.bracketed (cond 0) l (sample sign.Semicolon ∷ y) c.tree) (sym (joined_front y)) (closed _))
         (and_then _ (empty_stmt 0 y) (inr ((refl, refl), λ i. clash (sym (ap elses i) ∙ h)))))))));
@@ -151,7 +120,7 @@ module _ (t : Token) where
         (inr
         (inl
         (make s.while_of
-        (and_then _ (told sign.While e _)
+        (and_then _ (at_told t sign.While e _)
         (and_then (sample sign.Semicolon ∷ y)
         (subst (λ l. s.bracketed (cond 0) l (sample sign.Semicolon ∷ y) c.tree) (sym (joined_front y)) (closed _))
         (empty_stmt 0 y)))))));
@@ -169,7 +138,7 @@ module _ (t : Token) where
         (inr
         (inl
         (make s.do_of
-        (and_then _ (told sign.Do e _)
+        (and_then _ (at_told t sign.Do e _)
         (and_then _ (empty_stmt 0 _) (and_then _ (tok sign.While (real sign.While tt) _)
         (and_then (sample sign.Semicolon ∷ y)
         (subst (λ l. s.bracketed (cond 0) l (sample sign.Semicolon ∷ y) c.tree) (sym (joined_front y)) (closed _))
@@ -196,7 +165,8 @@ module _ (t : Token) where
         λ y h.
         inl
         (inr
-        (inr (inr (inr (make s.for_of (and_then _ (told sign.For e _) (and_then _ (tok sign.Open (real sign.Open tt) _)
+        (inr (inr (inr (make s.for_of (and_then _ (at_told t sign.For e _) (and_then _ (tok sign.Open
+        (real sign.Open tt) _)
         (and_then _ (inr (make s.first (and_then _ (inr (refl, refl)) (tok sign.Semicolon (real sign.Semicolon tt) _))))
         (and_then _ (inr (refl, refl)) (and_then _ (tok sign.Semicolon (real sign.Semicolon tt) _)
         (and_then _ (inr (refl, refl)) (and_then _ (tok sign.Close (real sign.Close tt) _) (empty_stmt 0 y)))))))))))));

@@ -28,6 +28,14 @@ pub leads_none : {X : Type 0} (A : Rule X) (fa ca ba ha : Signs) (n : ℕ) (end 
     → Leads A fa ca ba ha (many A) (cont_many fa ca) ba ha n end ts ts []
 leads_none A fa ca ba ha n end ts = record { takes = λ rest ys t. t; fails = λ e f. f }
 
+-- the same, of an equal list
+pub leads_as : {X : Type 0} {A : Rule X} {fa ca ba ha : Signs} {R : Rule (List X)} {cr br hr : Signs} {n : ℕ}
+    {end : Place} {ts mid : List Token} {xs ys : List X} → ys ≡ xs →
+    Leads A fa ca ba ha R cr br hr n end ts mid xs → Leads A fa ca ba ha R cr br hr n end ts mid ys
+leads_as {A = A} {fa = fa} {ca = ca} {ba = ba} {ha = ha} {R = R} {cr = cr} {br = br} {hr = hr} {n = n} {end = end}
+    {ts = ts} {mid = mid} e l =
+    subst (λ l. Leads A fa ca ba ha R cr br hr n end ts mid l) (sym e) l
+
 -- what holds of a part of a repetition: what continues it and what bars it do not begin it; no call's bracket opens a
 -- level at its front
 pub record Lists (fa ca ba ha : Signs) : Type 0 where

@@ -13,18 +13,16 @@ use Rattle.c_grammar.specs.declared.fault.SyntaxFault.{SyntaxFault}
 use Rattle.c_grammar.specs.declared.fault.SyntaxFault.TheVariants.{Syntax}
 use Rattle.c_grammar.specs.declared.signs.Sign.{Sign}
 use Rattle.c_grammar.specs.declared.signs.Sign.TheVariants as sign
+use Rattle.c_grammar.proofs.Families.{make}
 use Rattle.c_grammar.proofs.Goods.{good_literal}
 use Rattle.c_grammar.proofs.Parts.{fails_first}
-use Rattle.c_grammar.proofs.Tokens.{sample, sampled, real}
+use Rattle.c_grammar.proofs.Readings.{at_told, at_tok}
+use Rattle.c_grammar.proofs.Rules.{rest_of}
+use Rattle.c_grammar.proofs.Tokens.{sample, real}
 use Rattle.c_grammar.specs.Hopeless.{place_at}
 use Rattle.c_grammar.proofs.SignLemmas.{or_of, told_apart}
 
-rest_of : List Token → List Token
-rest_of [] = []
-rest_of (t ∷ ts) = ts
-
 literal_only : (t : Token) (z y : List Token) (x : Operand) → literal_part (t ∷ z) y x → z ≡ y
-unfolding rest_of
 literal_only t z y x (inl r) = ap rest_of r.read.read.0
 literal_only t z y x (inr (inl r)) = ap rest_of r.read.read.0
 literal_only t z y x (inr (inr (inl r))) = ap rest_of r.read.read.0
@@ -37,18 +35,14 @@ module _ (n : ℕ) (ts rest : List Token) (t : Token) (is : ts ≡ t ∷ rest) w
       { front = t ∷ []; is = is; alike = λ y h. reads y; only = λ m z y u same h r. literal_only t z y u r }
 
   pub takes_null : sign_of t ≡ sign.Null → Takes a_literal.rule no_sign no_sign n ts rest (operand'.Null t.at)
-  takes_null s = takes_single (operand'.Null t.at)
-      (λ y. inr (inl (record { part = t.at; is = refl; read = record { part = t; is = refl; read = (refl, s) } })))
+  takes_null s = takes_single (operand'.Null t.at) (λ y. inr (inl (make operand'.Null (at_told t sign.Null s y))))
 
   pub takes_true : sign_of t ≡ sign.True → Takes a_literal.rule no_sign no_sign n ts rest (operand'.True t.at)
-  takes_true s = takes_single (operand'.True t.at)
-      (λ y.
-      inr (inr (inl (record { part = t.at; is = refl; read = record { part = t; is = refl; read = (refl, s) } }))))
+  takes_true s = takes_single (operand'.True t.at) (λ y. inr (inr (inl (make operand'.True (at_told t sign.True s y)))))
 
   pub takes_false : sign_of t ≡ sign.False → Takes a_literal.rule no_sign no_sign n ts rest (operand'.False t.at)
   takes_false s = takes_single (operand'.False t.at)
-      (λ y.
-      inr (inr (inr (record { part = t.at; is = refl; read = record { part = t; is = refl; read = (refl, s) } }))))
+      (λ y. inr (inr (inr (make operand'.False (at_told t sign.False s y)))))
 
   pub takes_number : (text : List ℕ) → sign_of t ≡ sign.Number → text ≡ t.text
       → Takes a_literal.rule no_sign no_sign n ts rest (operand'.Number (record { text = text; at = t.at }))
@@ -65,15 +59,7 @@ least_literal : (n : ℕ) → Alive a_literal.rule no_sign n []
 least_literal n = record {
   more = sample sign.Null ∷ [];
   tree = operand'.Null (sample sign.Null).at;
-  reads =
-      λ y h.
-      inr
-      (inl
-      (record {
-        part = (sample sign.Null).at;
-        is = refl;
-        read = record { part = sample sign.Null; is = refl; read = (refl, sampled sign.Null (real sign.Null tt)) };
-      }));
+  reads = λ y h. inr (inl (make operand'.Null (at_tok sign.Null (real sign.Null tt) y)));
 }
 
 pub no_literal : (n : ℕ) (end : Place) (ts : List Token) (e : SyntaxFault) → e ≡ Syntax (place_at end ts)

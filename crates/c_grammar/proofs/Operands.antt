@@ -1,5 +1,5 @@
 -- How an operand is read, and where it fails.
-use Rattle.std.proofs.Common.{cond, ◌≡◌, ◌≢◌, ◌≤◌, ℕ, zero, suc, Bool, true, false, List, [], ◌∷◌, ◌++◌, refl, sym, ap}
+use Rattle.std.proofs.Common.{cond, ◌≡◌, ◌≤◌, ℕ, zero, suc, Bool, true, false, List, [], ◌∷◌, ◌++◌, refl, sym, ap}
 use Rattle.std.proofs.Common.{◌∙◌, subst, inl, inr, arith}
 use Rattle.fore_base.specs.declared.place.Place.{Place}
 use Rattle.c_ast.specs.declared.operands.Arrow.{Arrow}
@@ -9,98 +9,39 @@ use Rattle.c_ast.specs.declared.operands.Operand.TheVariants as operand'
 use Rattle.c_lexer.specs.declared.token.Token.{Token}
 use Rattle.c_grammar.specs.words.Faults.{Alive, Fails, Takes}
 use Rattle.c_grammar.specs.words.Faults.Fails.{sunk}
-use Rattle.c_grammar.specs.Grammar.{Rule, token, empty, ◌then◌, ◌or◌, Many}
+use Rattle.c_grammar.specs.Grammar.{Rule, level, ◌then◌, Many}
 use Rattle.c_grammar.specs.words.Sets.{no_sign, arrows, names, opens, commas, tails, operand_goes_on, operands_go_on}
 use Rattle.c_grammar.specs.words.Sets.{arguments_go_on, begins_operand}
 use Rattle.c_grammar.specs.words.Shapes.{IsName, a_name, some_arrows, next_argument, some_arguments, all_arguments}
 use Rattle.c_grammar.specs.words.Shapes.{a_literal}
 use Rattle.c_grammar.specs.Signs.{sign_of, sign_at, same_sign}
-use Rattle.c_grammar.specs.Syntax.{name, name_of, path_of, middle, series, joined, second, call_of, argument}
+use Rattle.c_grammar.specs.Syntax.{name, name_of, path_of, middle, series, call, call_of, argument}
 use Rattle.c_grammar.specs.declared.fault.SyntaxFault.{SyntaxFault}
-use Rattle.c_grammar.specs.declared.fault.SyntaxFault.TheVariants.{Syntax, Deep}
+use Rattle.c_grammar.specs.declared.fault.SyntaxFault.TheVariants.{Deep}
 use Rattle.c_grammar.specs.declared.signs.Sign.TheVariants as sign
 use Rattle.c_grammar.proofs.Decide.{apart_of, within}
-use Rattle.c_grammar.proofs.Goods.{good_one, good_name, good_arrows, good_more_operands, good_operands}
-use Rattle.c_grammar.proofs.Goods.{good_some_operands, good_closed_operands, good_arguments, good_argument, good_tail}
+use Rattle.c_grammar.proofs.Goods.{good_name, good_arrows, good_operands}
+use Rattle.c_grammar.proofs.Goods.{good_arguments, good_argument, good_tail}
 use Rattle.c_grammar.proofs.Goods.{good_word, good_literal, tail_part, word_of, Tail, factored, inner_arguments}
 use Rattle.c_grammar.proofs.Goods.{same_layer, layer_is, begins_literal}
 use Rattle.c_grammar.proofs.Lists.{Leads}
 use Rattle.c_grammar.proofs.Parts.{Same, good_made, good_nothing, good_level, takes_made, fails_made, fails_same}
 use Rattle.c_grammar.proofs.Parts.{takes_same, takes_nothing, takes_left, takes_right, fails_left, fails_right}
-use Rattle.c_grammar.proofs.Parts.{fails_level, takes_level, takes_token}
-use Rattle.c_grammar.proofs.Readings.{null_there}
-use Rattle.c_grammar.proofs.Repeats.{least_many}
-use Rattle.c_grammar.proofs.Rules.{Good}
-use Rattle.c_grammar.proofs.Sequences.{least_one}
+use Rattle.c_grammar.proofs.Parts.{fails_level, takes_level, not_below}
+use Rattle.c_grammar.proofs.Families.{make, and_then}
+use Rattle.c_grammar.proofs.Readings.{tok, null_operand}
+use Rattle.c_grammar.proofs.Series.{series_fails, series_begun}
+use Rattle.c_grammar.proofs.Rules.{Good, rest_of}
 use Rattle.c_grammar.proofs.Steps.{pair, in_front, in_back, widen_takes, widen_fails}
-use Rattle.c_grammar.proofs.Tokens.{sample, sampled, real, fails_one, takes_name}
-use Rattle.c_grammar.specs.Hopeless.{opener, place_at}
+use Rattle.c_grammar.proofs.Tokens.{sample, real, takes_name}
+use Rattle.c_grammar.specs.Hopeless.{opener}
 use Rattle.c_grammar.proofs.SignLemmas.{clash, one_of, and_of}
 
 gs : Good argument begins_operand operand_goes_on no_sign false
 gs = good_argument
 
-abbrev Closed : Rule (List Operand × Token)
-Closed n = (series sign.Comma (argument n) or empty []) then token sign.Close
-
-least_closed : (n : ℕ) → Alive Closed no_sign n []
-least_closed n = record {
-  more = sample sign.Close ∷ [];
-  tree = ([], sample sign.Close);
-  reads =
-      λ y h.
-      record {
-        mid = sample sign.Close ∷ y;
-        front = inr (refl, refl);
-        back = (refl, sampled sign.Close (real sign.Close tt));
-      };
-}
-
 pub least_argument : (n : ℕ) → Alive argument no_sign n []
-least_argument n = record {
-  more = sample sign.Null ∷ [];
-  tree = operand'.Null (sample sign.Null).at;
-  reads = λ y h. null_there y;
-}
-
--- a list in brackets
-module _ (n : ℕ) (end : Place) (ts : List Token) (e : SyntaxFault) where
-  pub no_open : e ≡ Syntax (place_at end ts) → sign_at ts ≢ sign.Open
-      → Fails all_arguments.rule no_sign no_sign no_sign n end ts e
-  no_open is other = widen_fails no_sign no_sign no_sign refl refl refl (fails_made middle e
-      (in_front (good_one sign.Open) (good_closed_operands gs) refl refl (least_closed n)
-      (fails_one sign.Open (real sign.Open tt) n end ts e is other)))
-
-  pub bad_inside : (t : Token) (rest : List Token) → ts ≡ t ∷ rest → sign_of t ≡ sign.Open
-      → Fails some_arguments.rule arguments_go_on no_sign no_sign n end rest e →
-      Fails all_arguments.rule no_sign no_sign no_sign n end ts e
-  bad_inside t rest is told f = widen_fails no_sign no_sign no_sign refl refl refl (fails_made middle e
-      (in_back (good_one sign.Open) (good_closed_operands gs) refl refl refl (takes_token sign.Open n ts rest t is told)
-      (widen_fails no_sign no_sign no_sign refl refl refl
-      (in_front (good_some_operands gs) (good_one sign.Close) refl refl
-      (least_one sign.Close (real sign.Close tt) n) f))))
-
-  pub no_close : (t : Token) (rest later : List Token) (os : List Operand) → ts ≡ t ∷ rest → sign_of t ≡ sign.Open
-      → Takes some_arguments.rule arguments_go_on no_sign n rest later os →
-      e ≡ Syntax (place_at end later) → sign_at later ≢ sign.Close
-      → Fails all_arguments.rule no_sign no_sign no_sign n end ts e
-  no_close t rest later os is told took bad other =
-      widen_fails no_sign no_sign no_sign refl refl refl (fails_made middle e
-      (in_back (good_one sign.Open) (good_closed_operands gs) refl refl refl (takes_token sign.Open n ts rest t is told)
-      (widen_fails no_sign no_sign no_sign refl refl refl
-      (in_back (good_some_operands gs) (good_one sign.Close) refl refl refl took
-      (fails_one sign.Close (real sign.Close tt) n end later e bad other)))))
-
-pub all_closed : (n : ℕ) (ts rest later after : List Token) (t u : Token) (os : List Operand) → ts ≡ t ∷ rest
-    → sign_of t ≡ sign.Open →
-    Takes some_arguments.rule arguments_go_on no_sign n rest later os → later ≡ u ∷ after → sign_of u ≡ sign.Close
-    → Takes all_arguments.rule no_sign no_sign n ts after os
-all_closed n ts rest later after t u os is told took close_is close_sign =
-    widen_takes no_sign no_sign refl refl (takes_made middle
-    (pair (good_one sign.Open) (good_closed_operands gs) refl (takes_token sign.Open n ts rest t is told)
-    (widen_takes no_sign no_sign refl refl
-    (pair (good_some_operands gs) (good_one sign.Close) refl took
-    (takes_token sign.Close n later after u close_is close_sign)))))
+least_argument = null_operand (level call)
 
 -- the list within
 module _ (n : ℕ) (ts : List Token) where
@@ -125,40 +66,17 @@ module _ (n : ℕ) (ts : List Token) where
       → Fails argument operand_goes_on no_sign no_sign n end ts e
       → Fails some_arguments.rule arguments_go_on no_sign no_sign n end ts e
   bad_first end e first f =
-      some_fail end e first (widen_fails operands_go_on no_sign no_sign refl refl refl (fails_made joined e
-      (in_front gs (good_more_operands gs) refl refl (least_many next_argument.rule no_sign n) f)))
+      some_fail end e first (series_fails sign.Comma operands_go_on no_sign gs refl refl refl f)
 
   pub begun : (end : Place) (mid : List Token) (x : Operand) → begins_operand (sign_at ts) ≡ true
       → Takes argument operand_goes_on no_sign n ts mid x →
       Leads next_argument.rule commas operand_goes_on no_sign no_sign some_arguments.rule arguments_go_on no_sign
       no_sign n end ts mid (x ∷ [])
-  begun end mid x first t = record {
-    takes = λ rest ys u. some_take rest (x ∷ ys) first (widen_takes operands_go_on no_sign refl refl (takes_made joined
-        (pair gs (good_more_operands gs) refl t (widen_takes operands_go_on no_sign refl refl u))));
-    fails = λ e f. some_fail end e first (widen_fails operands_go_on no_sign no_sign refl refl refl (fails_made joined e
-        (in_back gs (good_more_operands gs) refl refl refl t
-        (widen_fails operands_go_on no_sign no_sign refl refl refl f))));
-  }
-
--- one more
-module _ (n : ℕ) (end : Place) (ts : List Token) (e : SyntaxFault) where
-  pub no_comma : e ≡ Syntax (place_at end ts) → sign_at ts ≢ sign.Comma
-      → Fails next_argument.rule operand_goes_on no_sign no_sign n end ts e
-  no_comma is other = widen_fails operand_goes_on no_sign no_sign refl refl refl (fails_made second e
-      (in_front (good_one sign.Comma) gs refl refl (least_argument n)
-      (fails_one sign.Comma (real sign.Comma tt) n end ts e is other)))
-
-  pub bad_next : (t : Token) (rest : List Token) → ts ≡ t ∷ rest → sign_of t ≡ sign.Comma
-      → Fails argument operand_goes_on no_sign no_sign n end rest e
-      → Fails next_argument.rule operand_goes_on no_sign no_sign n end ts e
-  bad_next t rest is told f = widen_fails operand_goes_on no_sign no_sign refl refl refl (fails_made second e
-      (in_back (good_one sign.Comma) gs refl refl refl (takes_token sign.Comma n ts rest t is told) f))
-
-pub next_there : (n : ℕ) (ts rest after : List Token) (t : Token) (x : Operand) → ts ≡ t ∷ rest → sign_of t ≡ sign.Comma
-    → Takes argument operand_goes_on no_sign n rest after x →
-    Takes next_argument.rule operand_goes_on no_sign n ts after x
-next_there n ts rest after t x is told took = widen_takes operand_goes_on no_sign refl refl (takes_made second
-    (pair (good_one sign.Comma) gs refl (takes_token sign.Comma n ts rest t is told) took))
+  begun end mid x first t = let l = series_begun sign.Comma operands_go_on no_sign gs refl refl refl {end = end} t in
+      record {
+        takes = λ rest ys u. some_take rest (x ∷ ys) first (l.takes rest ys u);
+        fails = λ e f. some_fail end e first (l.fails e f);
+      }
 
 -- an operand of a call
 abbrev pub Inner : Rule (List Operand)
@@ -248,19 +166,15 @@ module _ {R : Rule (List Operand)} (gr : Good R opens no_sign no_sign false) {F 
         open_there (takes_made inl t)))
 
 -- a list in brackets one level further in
-pub inner_fails : (n k : ℕ) → n ≡ suc k → (end : Place) (ts : List Token) (e : SyntaxFault)
+pub deeper_fails : (n k : ℕ) → n ≡ suc k → (end : Place) (ts : List Token) (e : SyntaxFault)
     → Fails all_arguments.rule no_sign no_sign no_sign k end ts e → Fails Inner no_sign no_sign no_sign n end ts e
-inner_fails n k is end ts e f =
+deeper_fails n k is end ts e f =
     subst (λ m. Fails Inner no_sign no_sign no_sign m end ts e) (sym is) (fails_level (good_arguments gs) k end ts e f)
 
-pub inner_takes : (n k : ℕ) → n ≡ suc k → (ts rest : List Token) (os : List Operand)
+pub deeper_takes : (n k : ℕ) → n ≡ suc k → (ts rest : List Token) (os : List Operand)
     → Takes all_arguments.rule no_sign no_sign k ts rest os → Takes Inner no_sign no_sign n ts rest os
-inner_takes n k is ts rest os t =
+deeper_takes n k is ts rest os t =
     subst (λ m. Takes Inner no_sign no_sign m ts rest os) (sym is) (takes_level (good_arguments gs) k ts rest os t)
-
-rest_of : List Token → List Token
-rest_of [] = []
-rest_of (t ∷ ts) = ts
 
 abbrev starts : List Token → Bool
 starts [] = false
@@ -271,10 +185,7 @@ module _ (mid rest : List Token) (u : Token) (mid_is : mid ≡ u ∷ rest) (open
   no_call : (m : ℕ) (z y : List Token) (x : Tail) → m ≤ 0 → sign_at z ≡ sign_of u → tails (sign_at y) ≡ false
       → tail_part (Inner m) z y x → ⊥
   no_call zero z y x le same h (inl r) = r.read
-  no_call (suc m) z y x le same h (inl r) = nope le
-    where
-      nope : suc m ≤ 0 → ⊥
-      nope l = omega (arith, l)
+  no_call (suc m) z y x le same h (inl r) = not_below m le
   no_call m z y x le same h (inr r) = elim (good_arrows.starts m z y r.part r.read) [
     | inl f ↦ clash (sym (ap opens (same ∙ open_there)) ∙ apart_of opens arrows refl (sign_at z) f)
     | inr e ↦ clash (sym (ap tails (sym (ap sign_at e.1) ∙ same ∙ open_there)) ∙ h)
@@ -284,30 +195,13 @@ module _ (mid rest : List Token) (u : Token) (mid_is : mid ≡ u ∷ rest) (open
   called_on = record {
     more = sample sign.Close ∷ [];
     tree = inl [];
-    reads = λ y h. inl (record {
-      part = [];
-      is = refl;
-      read = record {
-        part = (u, ([], sample sign.Close));
-        is = refl;
-        read = record {
-          mid = sample sign.Close ∷ y;
-          front = (refl, open_there);
-          back =
-              record {
-                mid = sample sign.Close ∷ y;
-                front = inr (refl, refl);
-                back = (refl, sampled sign.Close (real sign.Close tt));
-              };
-        };
-      };
-    });
+    reads = λ y h. inl (make inl (make middle
+        (and_then _ (refl, open_there) (and_then _ (inr (refl, refl)) (tok sign.Close (real sign.Close tt) y)))));
   }
 
   module _ (ts : List Token) (t : Token) (ts_is : ts ≡ t ∷ mid) (id_there : sign_of t ≡ sign.Id) where
     not_called : (m : ℕ) (z y : List Token) (x : Operand) → m ≤ 0 → sign_at z ≡ sign_of u → operand_goes_on (sign_at y)
         ≡ false → factored (Inner m) (t ∷ z) y x → ⊥
-    unfolding rest_of
     not_called m z y x le same h (inl r) =
         no_call m z y r.part.1 le same (within tails operand_goes_on refl (sign_at y) h)
         (subst (λ l. tail_part (Inner m) l y r.part.1) (sym (ap rest_of r.read.front.read.0)) r.read.back)
@@ -322,6 +216,9 @@ module _ (mid rest : List Token) (u : Token) (mid_is : mid ≡ u ∷ rest) (open
         (and_of (same_sign sign.Id (sign_of t)) (same_sign sign.Open (sign_of u)) (ap (same_sign sign.Id) id_there)
         (ap (same_sign sign.Open) open_there)))
 
+    named : (y : List Token) → name (t ∷ y) y (name_of t)
+    named y = record { part = t; read = (refl, id_there); is = refl }
+
     pub too_deep : (end : Place) → Fails argument operand_goes_on no_sign no_sign 0 end ts (Deep t.at)
     too_deep end = sunk (record {
       pre = t ∷ [];
@@ -331,19 +228,7 @@ module _ (mid rest : List Token) (u : Token) (mid_is : mid ≡ u ∷ rest) (open
       alive = record {
         more = [];
         tree = operand'.Path (path_of (name_of t, []));
-        reads = λ y h. inl (record {
-          part = path_of (name_of t, []);
-          is = refl;
-          read = record {
-            part = (name_of t, []);
-            is = refl;
-            read = record {
-              mid = y;
-              front = record { part = t; read = (refl, id_there); is = refl };
-              back = Many.none;
-            };
-          };
-        });
+        reads = λ y h. inl (make operand'.Path (make path_of (and_then y (named y) Many.none)));
       };
       dead = λ m le z y x same h r. not_called m z y x le same h (same_argument.back m (t ∷ z) y x r);
       room = 1;
@@ -353,15 +238,8 @@ module _ (mid rest : List Token) (u : Token) (mid_is : mid ≡ u ∷ rest) (open
       deeper = record {
         more = called_on.more;
         tree = word_of (name_of t, called_on.tree);
-        reads = λ y h. same_argument.to 1 _ y _ (inl (record {
-          part = (name_of t, called_on.tree);
-          is = refl;
-          read = record {
-            mid = u ∷ (called_on.more ++ y);
-            front = record { part = t; read = (refl, id_there); is = refl };
-            back = called_on.reads y h;
-          };
-        }));
+        reads = λ y h. same_argument.to 1 _ y _
+            (inl (make word_of (and_then _ (named (u ∷ (called_on.more ++ y))) (called_on.reads y h))));
       };
     })
 

@@ -4,7 +4,7 @@ use Rattle.std.proofs.Common.{arith, inl, inr}
 use Rattle.fore_base.specs.declared.place.Place.{Place}
 use Rattle.c_lexer.specs.declared.token.Token.{Token}
 use Rattle.c_grammar.specs.declared.fault.SyntaxFault.{SyntaxFault}
-use Rattle.c_grammar.specs.declared.fault.SyntaxFault.TheVariants.{Syntax}
+use Rattle.c_grammar.specs.declared.fault.SyntaxFault.TheVariants.{Syntax, Deep}
 use Rattle.c_grammar.specs.words.Faults.{Alive, Dead, Fails, Takes}
 use Rattle.c_grammar.specs.Hopeless.{place_at}
 use Rattle.c_grammar.specs.words.Faults.Fails.{stuck, sunk, no_memory}
@@ -13,8 +13,9 @@ use Rattle.c_grammar.proofs.Families.{choice, made, one, no_token}
 use Rattle.c_grammar.specs.words.Sets.{Signs, no_sign}
 use Rattle.c_grammar.specs.Signs.{or_on, and, sign_of, sign_at}
 use Rattle.c_grammar.specs.declared.signs.Sign.{Sign}
+use Rattle.c_grammar.specs.declared.signs.Sign.TheVariants.{End}
 use Rattle.c_grammar.proofs.SignLemmas.{clash, or_left, or_right, or_first, or_second, and_of, and_gives}
-use Rattle.c_grammar.proofs.Rules.{Apart, Front, Good, same_head, bars_both, fails_map}
+use Rattle.c_grammar.proofs.Rules.{Apart, Front, Good, first_or, rest_of, same_head, after_both, bars_both, fails_map}
 
 -- a rule that is not empty stops at a token that cannot begin it
 pub fails_first : {X : Type 0} {A : Rule X} {fa ca ba ha : Signs} → Good A fa ca ba false
@@ -30,6 +31,35 @@ fails_first {X} {A} {fa} {ca} good n end ts least none_here = stuck (record {
       [ inl f ↦ clash (sym f ∙ ap fa same ∙ none_here) | inr e ↦ clash (sym e.0) ];
 })
 
+pub not_below : (m : ℕ) → suc m ≤ 0 → ⊥
+not_below m h = omega (arith, h)
+
+-- where a level begins that none is left for, a rule that reads nothing there stops at its first token
+pub deep_first : {X : Type 0} (F : Rule X) (c ba hs : Signs) (end : Place) (ts : List Token) → hs (sign_at ts) ≡ true
+    → hs End ≡ false → Alive F ba 0 [] →
+    ((t : Token) → hs (sign_of t) ≡ true → Alive F ba 1 (t ∷ [])) →
+    ((z y : List Token) (x : X) → hs (sign_at z) ≡ true → F 0 z y x → ⊥)
+    → Fails F c ba hs 0 end ts (Deep (place_at end ts))
+deep_first F c ba hs end [] first solid least on dead = absurd (clash (sym first ∙ solid))
+deep_first {X} F c ba hs end (t ∷ rest) first solid least on dead = sunk (record {
+  pre = [];
+  next = t;
+  post = rest;
+  is = refl;
+  place = refl;
+  early = λ e. first;
+  alive = least;
+  dead = within_none;
+  room = 1;
+  higher = omega arith;
+  deeper = on t first;
+})
+  where
+    within_none : (m : ℕ) → m ≤ 0 → (z y : List Token) (x : X) → sign_at z ≡ sign_of t → c (sign_at y) ≡ false
+        → F m z y x → ⊥
+    within_none zero le z y x same h r = dead z y x (ap hs same ∙ first) r
+    within_none (suc m) le z y x same h r = absurd (not_below m le)
+
 -- one token
 pub good_token : (s : Sign) (p : Signs) → ((t : Sign) → t ≡ s → p t ≡ true) → Good (one s) p no_sign no_sign false
 good_token s p has = record {
@@ -38,14 +68,6 @@ good_token s p has = record {
   starts = λ n ts rest x r. inl (has (sign_at ts) (ap sign_at r.0 ∙ r.1));
   up = λ n m ts rest x le r. r;
 }
-  where
-    rest_of : List Token → List Token
-    rest_of [] = []
-    rest_of (t ∷ ts) = ts
-
-    first_or : Token → List Token → Token
-    first_or d [] = d
-    first_or d (t ∷ ts) = t
 
 pub least_token : (s : Sign) (t : Token) → sign_of t ≡ s → (n : ℕ) → Alive (one s) no_sign n []
 least_token s t is n = record { more = t ∷ []; tree = t; reads = λ y h. (refl, is) }
@@ -98,10 +120,6 @@ pub takes_token : (s : Sign) (n : ℕ) (ts rest : List Token) (t : Token) → ts
     → Takes (one s) no_sign no_sign n ts rest t
 takes_token s n ts rest t is sign =
     record { front = t ∷ []; is = is; alike = λ y h. (refl, sign); only = λ m z y u same h r. ap rest_of r.0 }
-  where
-    rest_of : List Token → List Token
-    rest_of [] = []
-    rest_of (t ∷ ts) = ts
 
 pub takes_nothing : {X : Type 0} (v : X) (n : ℕ) (ts : List Token) → Takes (no_token v) no_sign no_sign n ts ts v
 takes_nothing v n ts = record { front = []; is = refl; alike = λ y h. (refl, refl); only = λ m z y u same h r. r.0 }
@@ -217,13 +235,12 @@ module _ {X : Type 0} {A B : Rule X} {fa ca ba fb cb bb : Signs} {na nb : Bool} 
   either_front n ts rest x (inl r) = let p = ga.front n ts rest x r in record {
     front = p.front;
     is = p.is;
-    alike = λ y. elim [ inl e ↦ inl (p.alike y (inl e)) | inr e ↦ inl (p.alike y (inr (or_left _ _ e))) ];
+    alike = λ y h. inl (p.alike y (after_both ba bb y rest h).0);
   }
   either_front n ts rest x (inr r) = let p = gb.front n ts rest x r in record {
     front = p.front;
     is = p.is;
-    alike =
-        λ y. elim [ inl e ↦ inr (p.alike y (inl e)) | inr e ↦ inr (p.alike y (inr (or_right (ba (sign_at y)) _ e))) ];
+    alike = λ y h. inr (p.alike y (after_both ba bb y rest h).1);
   }
 
   either_starts : (n : ℕ) (ts rest : List Token) (x : X) → choice A B n ts rest x
@@ -291,7 +308,7 @@ module _ {X : Type 0} {A B : Rule X} {fa ca ba fb cb bb : Signs} {na nb : Bool} 
   takes_left n ts rest x first t = record {
     front = t.front;
     is = t.is;
-    alike = λ y. elim [ inl e ↦ inl (t.alike y (inl e)) | inr e ↦ inl (t.alike y (inr (or_left _ _ e))) ];
+    alike = λ y h. inl (t.alike y (after_both ba bb y rest h).0);
     only = λ m z y u same h.
         elim [
           | inl r ↦ t.only m z y u same (or_left _ _ (or_left _ _ h)) r
@@ -305,8 +322,7 @@ module _ {X : Type 0} {A B : Rule X} {fa ca ba fb cb bb : Signs} {na nb : Bool} 
   takes_right solid n ts rest x other t = record {
     front = t.front;
     is = t.is;
-    alike =
-        λ y. elim [ inl e ↦ inr (t.alike y (inl e)) | inr e ↦ inr (t.alike y (inr (or_right (ba (sign_at y)) _ e))) ];
+    alike = λ y h. inr (t.alike y (after_both ba bb y rest h).1);
     only = λ m z y u same h.
         elim [
           | inl r ↦ absurd (dead_other solid m ts t.front rest t.is other z y u same h r)
@@ -335,10 +351,7 @@ module _ {X : Type 0} {A : Rule X} {fa ca ba : Signs} {na : Bool} (ga : Good A f
 
   level_up : (n m : ℕ) (ts rest : List Token) (x : X) → n ≤ m → level A n ts rest x → level A m ts rest x
   level_up zero m ts rest x le r = absurd r
-  level_up (suc n) zero ts rest x le r = absurd (no_room le)
-    where
-      no_room : suc n ≤ zero → ⊥
-      no_room h = omega arith
+  level_up (suc n) zero ts rest x le r = absurd (not_below n le)
   level_up (suc n) (suc m) ts rest x le r = ga.up n m ts rest x (omega (arith, le)) r
 
   pub good_level : Good (level A) fa ca ba na

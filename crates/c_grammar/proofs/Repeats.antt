@@ -12,7 +12,7 @@ use Rattle.c_grammar.specs.words.Sets.{Signs}
 use Rattle.c_grammar.specs.Signs.{or_on, sign_at}
 use Rattle.c_grammar.specs.declared.signs.Sign.{Sign}
 use Rattle.c_grammar.proofs.SignLemmas.{clash, or_left, or_right, or_of}
-use Rattle.c_grammar.proofs.Rules.{Apart, Front, Good, same_head, other_head, cont_both, bars_both, takes_both}
+use Rattle.c_grammar.proofs.Rules.{Apart, Front, Good, same_head, head_of_front, cont_both, bars_both, takes_both}
 use Rattle.c_grammar.proofs.Rules.{fails_map}
 
 abbrev pub cont_many : Signs → Signs → Signs
@@ -53,10 +53,6 @@ module _ {X : Type 0} {A : Rule X} {fa ca ba : Signs} (ga : Good A fa ca ba fals
   many_front n ts rest xs (more {mid = mid} {x = x} {xs = ys} r rs) =
       let a = ga.front n ts mid x r in
       let b = many_front n mid rest ys rs in
-      let first : (y : List Token) → (sign_at y ≡ sign_at rest) ⊎ (ba (sign_at y) ≡ false)
-      → (sign_at (b.front ++ y) ≡ sign_at mid) ⊎ (ba (sign_at (b.front ++ y)) ≡ false) =
-      λ y. elim [ inl e ↦ inl (same_head b.front y rest mid b.is e) | inr e ↦ other_head b.front y rest mid ba b.is e ]
-      in
       record {
         front = a.front ++ b.front;
         is = a.is ∙ ap (λ l. a.front ++ l) b.is ∙ sym (append_assoc a.front b.front rest);
@@ -64,7 +60,7 @@ module _ {X : Type 0} {A : Rule X} {fa ca ba : Signs} (ga : Good A fa ca ba fals
             λ y h.
             more
             (subst (λ l. A n l (b.front ++ y) x) (sym (append_assoc a.front b.front y))
-            (a.alike (b.front ++ y) (first y h))) (b.alike y h);
+            (a.alike (b.front ++ y) (head_of_front b.front rest mid ba b.is y h))) (b.alike y h);
       }
 
   many_up : (n m : ℕ) (ts rest : List Token) (xs : List X) → n ≤ m → many A n ts rest xs → many A m ts rest xs

@@ -32,7 +32,8 @@ use Rattle.c_grammar.specs.Syntax.{at, name, name_of, path, bracketed, middle, s
 use Rattle.c_grammar.specs.declared.signs.Sign.TheVariants as sign
 use Rattle.c_grammar.specs.words.Sets.{among, begins_operand}
 use Rattle.c_grammar.proofs.Goods.{good_operand}
-use Rattle.c_grammar.proofs.Readings.{tok, make, and_then, at_tok}
+use Rattle.c_grammar.proofs.Families.{make, and_then}
+use Rattle.c_grammar.proofs.Readings.{tok, at_tok}
 use Rattle.c_grammar.proofs.SignLemmas.{clash}
 use Rattle.c_grammar.proofs.Statements.{good_cast}
 use Rattle.c_grammar.proofs.Tokens.{sample, sampled, real}

@@ -21,6 +21,15 @@ abbrev pub IsCons : List Token → Type 0
 IsCons [] = ⊥
 IsCons (t ∷ ts) = Unit {0}
 
+-- the first token, and those after it
+abbrev pub first_or : Token → List Token → Token
+first_or d [] = d
+first_or d (t ∷ ts) = t
+
+abbrev pub rest_of : List Token → List Token
+rest_of [] = []
+rest_of (t ∷ ts) = ts
+
 -- no sign is in both
 abbrev pub Apart : Signs → Signs → Type 0
 Apart p q = (s : Sign) → q s ≡ true → p s ≡ false
@@ -70,10 +79,22 @@ pub same_head : (front y rest ts : List Token) → ts ≡ front ++ rest → sign
 same_head [] y rest ts is h = h ∙ ap sign_at (sym is)
 same_head (t ∷ front) y rest ts is h = ap sign_at (sym is)
 
-pub other_head : (front y rest ts : List Token) (p : Signs) → ts ≡ front ++ rest → p (sign_at y) ≡ false
-    → (sign_at (front ++ y) ≡ sign_at ts) ⊎ (p (sign_at (front ++ y)) ≡ false)
-other_head [] y rest ts p is h = inr h
-other_head (t ∷ front) y rest ts p is h = inl (ap sign_at (sym is))
+-- before tokens that begin as those behind a front do, or that may come there, the front begins as all of the tokens
+-- do, or what stands there may come there
+pub head_of_front : (front rest ts : List Token) (p : Signs) → ts ≡ front ++ rest → (y : List Token)
+    → (sign_at y ≡ sign_at rest) ⊎ (p (sign_at y) ≡ false) →
+    (sign_at (front ++ y) ≡ sign_at ts) ⊎ (p (sign_at (front ++ y)) ≡ false)
+head_of_front [] rest ts p is y (inl e) = inl (e ∙ ap sign_at (sym is))
+head_of_front [] rest ts p is y (inr e) = inr e
+head_of_front (t ∷ front) rest ts p is y h = inl (ap sign_at (sym is))
+
+-- what may come after both of two parts, or stands there, may come after each, or stands there
+pub after_both : (ba bb : Signs) (z rest : List Token)
+    → (sign_at z ≡ sign_at rest) ⊎ (bars_both ba bb (sign_at z) ≡ false) →
+    ((sign_at z ≡ sign_at rest) ⊎ (ba (sign_at z) ≡ false)) × ((sign_at z ≡ sign_at rest) ⊎ (bb (sign_at z) ≡ false))
+after_both ba bb z rest (inl e) = (inl e, inl e)
+after_both ba bb z rest (inr e) =
+    (inr (or_left (ba (sign_at z)) (bb (sign_at z)) e), inr (or_right (ba (sign_at z)) (bb (sign_at z)) e))
 
 -- what opens a level after a front that is not empty is told by what stands next to it
 pub opener_after : (front pre : List Token) (t : Token) → (pre ≡ [] → opener front t ≡ t) → opener (front ++ pre) t
@@ -125,25 +146,14 @@ module _ {X Y : Type 0} {A : Rule X} {B : Rule Y} {fa ca ba fb cb bb : Signs} {n
   both_front n ts rest x r =
       let a = ga.front n ts r.mid x.0 r.front in
       let b = gb.front n r.mid rest x.1 r.back in
-      let first : (y : List Token) → (sign_at y ≡ sign_at rest) ⊎ (bars_both ba bb (sign_at y) ≡ false)
-      → (sign_at (b.front ++ y) ≡ sign_at r.mid) ⊎ (ba (sign_at (b.front ++ y)) ≡ false) =
-      λ y.
-      elim [
-        | inl e ↦ inl (same_head b.front y rest r.mid b.is e)
-        | inr e ↦ other_head b.front y rest r.mid ba b.is
-            (or_left _ _ e)
-      ] in
-      let later : (y : List Token) → (sign_at y ≡ sign_at rest) ⊎ (bars_both ba bb (sign_at y) ≡ false)
-      → (sign_at y ≡ sign_at rest) ⊎ (bb (sign_at y) ≡ false) =
-      λ y. elim [ inl e ↦ inl e | inr e ↦ inr (or_right (ba (sign_at y)) _ e) ] in
       record {
         front = a.front ++ b.front;
         is = a.is ∙ ap (λ l. a.front ++ l) b.is ∙ sym (append_assoc a.front b.front rest);
         alike = λ y h. record {
           mid = b.front ++ y;
           front = subst (λ l. A n l (b.front ++ y) x.0) (sym (append_assoc a.front b.front y))
-              (a.alike (b.front ++ y) (first y h));
-          back = b.alike y (later y h);
+              (a.alike (b.front ++ y) (head_of_front b.front rest r.mid ba b.is y (after_both ba bb y rest h).0));
+          back = b.alike y (after_both ba bb y rest h).1;
         };
       }
 
@@ -234,25 +244,14 @@ module _ {X Y : Type 0} {A : Rule X} {B : Rule Y} {fa ca ba fb cb bb : Signs} {n
     pub takes_both : (rest : List Token) (y : Y) → Takes B cb bb n mid rest y
         → Takes (both A B) (cont_both nb ca cb) (bars_both ba bb) n ts rest (x, y)
     takes_both rest y b =
-        let first : (z : List Token) → (sign_at z ≡ sign_at rest) ⊎ (bars_both ba bb (sign_at z) ≡ false)
-        → (sign_at (b.front ++ z) ≡ sign_at mid) ⊎ (ba (sign_at (b.front ++ z)) ≡ false) =
-        λ z.
-        elim [
-          | inl e ↦ inl (same_head b.front z rest mid b.is e)
-          | inr e ↦ other_head b.front z rest mid ba b.is
-              (or_left _ _ e)
-        ] in
-        let later : (z : List Token) → (sign_at z ≡ sign_at rest) ⊎ (bars_both ba bb (sign_at z) ≡ false)
-        → (sign_at z ≡ sign_at rest) ⊎ (bb (sign_at z) ≡ false) =
-        λ z. elim [ inl e ↦ inl e | inr e ↦ inr (or_right (ba (sign_at z)) _ e) ] in
         record {
           front = part.front ++ b.front;
           is = part.is ∙ ap (λ l. part.front ++ l) b.is ∙ sym (append_assoc part.front b.front rest);
           alike = λ z h. record {
             mid = b.front ++ z;
             front = subst (λ l. A n l (b.front ++ z) x) (sym (append_assoc part.front b.front z))
-                (part.alike (b.front ++ z) (first z h));
-            back = b.alike z (later z h);
+                (part.alike (b.front ++ z) (head_of_front b.front rest mid ba b.is z (after_both ba bb z rest h).0));
+            back = b.alike z (after_both ba bb z rest h).1;
           };
           only = λ m z w t same h r.
               let front : A m (part.front ++ (b.front ++ z)) r.mid t.0 =

@@ -1,23 +1,24 @@
 -- What the parts of a sequence are given to the whole: shortest readings, and parts that are read into what the whole
 -- makes of them.
-use Rattle.std.proofs.Common.{◌≡◌, ◌≢◌, ℕ, Bool, false, List, [], ◌++◌, refl, sym, ◌∙◌, subst, append_assoc, inl}
+use Rattle.std.proofs.Common.{◌≡◌, ◌≢◌, ℕ, Bool, false, List, [], ◌∷◌, ◌++◌, refl, sym, ◌∙◌, subst, append_assoc, inl}
 use Rattle.std.proofs.Common.{inr}
 use Rattle.std.proofs.lemmas.List.{append_cancel_right}
 use Rattle.fore_base.specs.declared.place.Place.{Place}
 use Rattle.c_lexer.specs.declared.token.Token.{Token}
 use Rattle.c_grammar.specs.Grammar.{Rule}
-use Rattle.c_grammar.specs.Syntax.{at, at_of}
+use Rattle.c_grammar.specs.Syntax.{at, at_of, bracketed, middle}
 use Rattle.c_grammar.specs.declared.fault.SyntaxFault.{SyntaxFault}
 use Rattle.c_grammar.specs.declared.signs.Sign.{Sign}
-use Rattle.c_grammar.specs.declared.signs.Sign.TheVariants.{End}
+use Rattle.c_grammar.specs.declared.signs.Sign.TheVariants.{Open, Close, End}
 use Rattle.c_grammar.specs.words.Faults.{Alive, Fails, Takes}
-use Rattle.c_grammar.specs.words.Sets.{Signs, no_sign}
+use Rattle.c_grammar.specs.words.Sets.{Signs, among, no_sign}
 use Rattle.c_grammar.proofs.Decide.{apart_of}
 use Rattle.c_grammar.proofs.Families.{both, made, one}
+use Rattle.c_grammar.proofs.Goods.{good_one}
 use Rattle.c_grammar.proofs.Parts.{alive_made, least_token}
 use Rattle.c_grammar.proofs.Rules.{Good, alive_front, fails_map, follows, bars_both}
-use Rattle.c_grammar.proofs.Steps.{Clear}
-use Rattle.c_grammar.proofs.Tokens.{sample, sampled}
+use Rattle.c_grammar.proofs.Steps.{Clear, good_pair}
+use Rattle.c_grammar.proofs.Tokens.{sample, sampled, real}
 
 -- the same, with an equal tree
 pub takes_as : {X : Type 0} {A : Rule X} {ca ba : Signs} {n : ℕ} {ts rest : List Token} {x : X} (y : X) → y ≡ x
@@ -37,6 +38,12 @@ pub least_pair : {X Y : Type 0} {A : Rule X} {B : Rule Y} {fa ca ba fb cb bb : S
     (n : ℕ) → Alive A ba n [] → Alive B bb n [] → Alive (both A B) (bars_both ba bb) n []
 least_pair {ca = ca} {ba = ba} {fb = fb} ga gb apart free n a b =
     alive_front ga gb (apart_of ca fb apart) n [] a b (follows ga gb (apart_of ca fb apart) n (apart_of ba fb free) b)
+
+pub least_bracketed : {X : Type 0} {A : Rule X} {fa ca : Signs} {na : Bool} → Good A fa ca no_sign na
+    → Clear ca (among (Close ∷ [])) → (n : ℕ) → Alive A no_sign n [] → Alive (λ n. bracketed (A n)) no_sign n []
+least_bracketed ga clear n a = alive_made middle
+    (least_pair (good_one Open) (good_pair ga (good_one Close) clear) refl refl n (least_one Open (real Open tt) n)
+    (least_pair ga (good_one Close) clear refl n a (least_one Close (real Close tt) n)))
 
 -- what was read into what the whole makes of it, was read
 module _ {X Y : Type 0} {A : Rule X} {fa ca ba : Signs} {na : Bool} (ga : Good A fa ca ba na) (f : X → Y) where

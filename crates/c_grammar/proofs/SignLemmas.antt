@@ -1,5 +1,5 @@
 -- Truth values, and signs that are told apart by their numbers.
-use Rattle.std.proofs.Common.{◌≡◌, ◌≢◌, ℕ, zero, suc, Bool, true, false, [], ◌∷◌, refl, sym, ap, ◌∙◌, subst}
+use Rattle.std.proofs.Common.{◌≡◌, ◌≢◌, ℕ, zero, suc, Bool, true, false, [], ◌∷◌, refl, sym, ap, ◌∙◌, subst, not}
 use Rattle.std.proofs.lemmas.Bool.{eqb-true}
 use Rattle.c_grammar.specs.Signs.{or_on, and, number_of, same_sign}
 use Rattle.c_grammar.specs.words.Sets.{among}
@@ -44,6 +44,22 @@ and_of false b e f = e
 pub and_gives : (a b : Bool) → and a b ≡ false → a ≡ true → b ≡ false
 and_gives true b e f = e
 and_gives false b e f = absurd (clash (sym f))
+
+pub and_left : (a b : Bool) → and a b ≡ true → a ≡ true
+and_left true b h = refl
+and_left false b h = h
+
+pub and_right : (a b : Bool) → and a b ≡ true → b ≡ true
+and_right true b h = h
+and_right false b h = absurd (clash (sym h))
+
+pub only_right : (a b : Bool) → or_on a b ≡ true → a ≡ false → b ≡ true
+only_right true b h e = absurd (clash e)
+only_right false b h e = h
+
+pub off : (b : Bool) → not b ≡ true → b ≡ false
+off true h = absurd (clash (sym h))
+off false h = refl
 
 pub and_no : (a b : Bool) → b ≡ false → and a b ≡ false
 and_no true b e = e

@@ -17,7 +17,7 @@ use Rattle.c_ast.specs.declared.statements.Block.{Block}
 use Rattle.c_ast.specs.declared.statements.Data.{Data}
 use Rattle.c_lexer.specs.declared.token.Token.{Token}
 use Rattle.c_grammar.specs.Grammar.{Part, Rule, token, ◌then◌, ◌or◌, Many, Made}
-use Rattle.c_grammar.specs.Syntax.{at, name, second, middle, joined, optional, series, bracketed, data_part, declare}
+use Rattle.c_grammar.specs.Syntax.{at, name, behind, middle, joined, optional, series, bracketed, data_part, declare}
 use Rattle.c_grammar.specs.Syntax.{block}
 use Rattle.c_grammar.specs.declared.signs.Sign.TheVariants as sign
 
@@ -27,7 +27,7 @@ some A = Made joined (A then Many A)
 
 -- field = "struct" id "*" id { "," "*" id } ";" | data id { "," id } ";"
 abbrev pub star_name : Part Name
-star_name = Made second (token sign.Star then name)
+star_name = behind sign.Star name
 
 abbrev pub pointer_fields_of : Place × (Name × (List Name × Token)) → Field
 pointer_fields_of p = field'.Pointers p.0 p.1.0 p.1.1.0
@@ -51,7 +51,7 @@ structdef = Made struct_of (at sign.Struct then name then optional braced_fields
 
 -- enumdef = "enum" id "{" id { "," id } [ "," ] "}" ";"
 abbrev pub more_names : Part (List Name × (Option Token × Token))
-more_names = Many (Made second (token sign.Comma then name)) then optional (token sign.Comma) then token sign.CloseBrace
+more_names = Many (behind sign.Comma name) then optional (token sign.Comma) then token sign.CloseBrace
 
 abbrev pub Enumerated : Type 0
 Enumerated = Token × (Name × ((List Name × (Option Token × Token)) × Token))

@@ -57,12 +57,16 @@ middle p = p.1.0
 abbrev pub optional : {X : Type 0} → Part X → Part (Option X)
 optional A = Made Some A or empty None
 
+-- a token, and a part behind it, which alone is kept
+abbrev pub behind : {X : Type 0} → Sign → Part X → Part X
+behind s A = Made second (token s then A)
+
 abbrev pub joined : {X : Type 0} → X × List X → List X
 joined p = p.0 ∷ p.1
 
 -- one or more, with a token between two of them
 abbrev pub series : {X : Type 0} → Sign → Part X → Part (List X)
-series sep A = Made joined (A then Many (Made second (token sep then A)))
+series sep A = Made joined (A then Many (behind sep A))
 
 abbrev pub bracketed : {X : Type 0} → Part X → Part X
 bracketed A = Made middle (token sign.Open then A then token sign.Close)
@@ -130,7 +134,7 @@ abbrev pub size_bare : Place × (Place × Path) → Size
 size_bare p = size'.Bare p.0 p.1.0 p.1.1
 
 abbrev pub size : Part Size
-size = Made size_struct (at sign.Sizeof then bracketed (Made second (token sign.Struct then name)))
+size = Made size_struct (at sign.Sizeof then bracketed (behind sign.Struct name))
     or Made size_bracketed (at sign.Sizeof then bracketed (at sign.Star then path)) or Made size_bare
     (at sign.Sizeof then at sign.Star then path)
 
@@ -230,7 +234,7 @@ abbrev pub declarator_of : Name × Option Rhs → Declarator
 declarator_of p = record { name = p.0; from = p.1 }
 
 abbrev pub declarator : Rule Declarator
-declarator n = Made declarator_of (name then optional (Made second (token sign.Assign then rhs n)))
+declarator n = Made declarator_of (name then optional (behind sign.Assign (rhs n)))
 
 abbrev pub pointers_of : Place × (Name × (List Declarator × Token)) → Declare
 pointers_of p = declare'.Pointers p.0 p.1.0 p.1.1.0
@@ -240,7 +244,7 @@ datums_of p = declare'.Datums p.0 p.1.0
 
 abbrev pub declare : Rule Declare
 declare n = Made pointers_of
-    (at sign.Struct then name then series sign.Comma (Made second (token sign.Star then declarator n))
+    (at sign.Struct then name then series sign.Comma (behind sign.Star (declarator n))
     then token sign.Semicolon)
     or Made datums_of (data_part then series sign.Comma (declarator n) then token sign.Semicolon)
 
@@ -290,7 +294,7 @@ abbrev pub for_of : Place × (Token × (First × (Option Cond × (Token × (Opti
 for_of p = stmt'.For p.0 p.1.1.0 p.1.1.1.0 p.1.1.1.1.1.0 p.1.1.1.1.1.1.1
 
 abbrev pub other_part : Part Stmt → Part (Option Stmt)
-other_part s = Made Some (Made second (token sign.Else then s)) or unless sign.Else (empty None)
+other_part s = Made Some (behind sign.Else s) or unless sign.Else (empty None)
 
 abbrev pub first_part : Part Declare → Part Simple → Part First
 first_part d m = Made first'.Declare d or Made first

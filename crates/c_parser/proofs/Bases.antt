@@ -7,25 +7,20 @@ use Rattle.c_grammar.specs.words.Sets.{among, no_sign, elses}
 use Rattle.c_parser.specs.declared.globals.Base.{Base}
 use Rattle.c_parser.specs.inner.Shapes.{base_declared, is_pointer, item_of}
 use Rattle.c_grammar.proofs.Families.{made}
-use Rattle.c_grammar.proofs.Goods.{named, good_one}
-use Rattle.c_grammar.proofs.Items.{good_called}
+use Rattle.c_grammar.proofs.Goods.{named}
+use Rattle.c_grammar.proofs.Items.{good_called, good_declared_with}
 use Rattle.c_grammar.proofs.Parts.{good_made}
 use Rattle.c_grammar.proofs.Rules.{Good}
-use Rattle.c_grammar.proofs.Statements.{good_maybe_from}
-use Rattle.c_grammar.proofs.Steps.{good_pair}
-use Rattle.c_statements.proofs.Declarators.{good_more_declarators}
+use Rattle.c_statements.proofs.Declarators.{good_init_declarator}
 
 pub good_declared : (base : Base) → Good (base_declared base) begins_declared no_sign no_sign false
-good_declared base = named begins_declared no_sign no_sign
-    (good_pair good_maybe_from
-    (good_pair (good_more_declarators (is_pointer base)) (good_one sign.Semicolon) refl) refl) refl refl refl
+good_declared base = good_declared_with (good_init_declarator (is_pointer base))
 
 pub good_base_declared : (base : Base) (name : Name)
     → Good (made (λ (r : Declared). item_of base name (inr r)) (base_declared base)) begins_declared no_sign elses false
-good_base_declared base name = named begins_declared no_sign elses
+good_base_declared base name = named _ _ _
     (good_made (good_declared base) (λ (r : Declared). item_of base name (inr r))) refl refl refl
 
 pub good_base_called : (base : Base) (name : Name)
     → Good (made (λ (q : Called). item_of base name (inl q)) called) (among (sign.Open ∷ [])) no_sign elses false
-good_base_called base name = named (among (sign.Open ∷ [])) no_sign elses
-    (good_made good_called (λ (q : Called). item_of base name (inl q))) refl refl refl
+good_base_called base name = good_made good_called (λ (q : Called). item_of base name (inl q))

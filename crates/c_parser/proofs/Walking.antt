@@ -8,12 +8,12 @@ use Rattle.c_grammar.specs.Items.{more_names}
 use Rattle.c_grammar.specs.Syntax.{first}
 use Rattle.c_grammar.specs.words.Faults.{Takes}
 use Rattle.c_grammar.specs.words.Sets.{no_sign}
-use Rattle.c_grammar.proofs.Enumerators.{Walks, walks_next, names_ends}
+use Rattle.c_grammar.proofs.Enumerators.{Walks, walks_more, names_ends}
 use Rattle.c_parser.specs.inner.Values.{ValueStep}
 
 module _ (n : ℕ) (end : Place) (ts mid after : List Token) (xs : List Name) (w : Walks n end ts mid xs) where
   on : (x : Name) → ValueStep n mid after (Some x) → Walks n end ts after (xs ++ x ∷ [])
-  on x s = walks_next n end ts mid after xs s.0 s.1 x w s.2 s.3 s.4 s.5
+  on x s = walks_more n end ts mid after xs s.0 s.1 x w s.2 s.3 s.4 s.5
 
   pub walk_on : (o : Option Name) → ValueStep n mid after o → (x : Name) → o ≡ Some x
       → Walks n end ts after (xs ++ x ∷ [])

@@ -18,120 +18,71 @@ use Rattle.c_grammar.specs.Syntax as s
 use Rattle.c_grammar.specs.declared.signs.Sign.TheVariants as sign
 use Rattle.c_grammar.specs.words.Parted.{Inside, inside_part, Sized, sized_part, size_of, After, after_part}
 use Rattle.c_grammar.specs.words.Parted.{simple_word}
-use Rattle.c_grammar.specs.words.Sets.{no_sign, arrows, opens, operand_goes_on}
-use Rattle.c_grammar.specs.words.Shapes.{Shape}
+use Rattle.c_grammar.specs.words.Sets.{arrows, opens, operand_goes_on}
+use Rattle.c_grammar.specs.words.Shapes.{Shape, plain_shape, continued_shape}
 
 abbrev pub read_closed_path : Shape Path
-read_closed_path = record { rule = λ n. s.bracketed s.path; cont = no_sign; bars = no_sign; heads = no_sign }
+read_closed_path = plain_shape (λ n. s.bracketed s.path)
 
 -- a star, and a path behind it
 abbrev pub read_starred : Shape (Place × Path)
-read_starred = record { rule = λ n. s.at sign.Star then s.path; cont = arrows; bars = no_sign; heads = no_sign }
+read_starred = continued_shape arrows (λ n. s.at sign.Star then s.path)
 
 abbrev pub read_struct_size : Place → Shape Size
-read_struct_size at = record {
-  rule = λ n. Made (λ (x : Name). size'.Struct at x) (Made s.second (token sign.Struct then s.name));
-  cont = no_sign;
-  bars = no_sign;
-  heads = no_sign;
-}
+read_struct_size at =
+    plain_shape (λ n. Made (λ (x : Name). size'.Struct at x) (s.behind sign.Struct s.name))
 
 abbrev pub read_size_inside : Place → Shape Size
-read_size_inside at = record {
-  rule = λ n. Made (λ (i : Inside). size_of (at, inl i)) inside_part;
-  cont = arrows;
-  bars = no_sign;
-  heads = no_sign;
-}
+read_size_inside at = continued_shape arrows (λ n. Made (λ (i : Inside). size_of (at, inl i)) inside_part)
 
 abbrev pub read_closed_size_inside : Place → Shape Size
-read_closed_size_inside at =
-    record {
-      rule = λ n. Made (λ (i : Inside). size_of (at, inl i)) (s.bracketed inside_part);
-      cont = no_sign;
-      bars = no_sign;
-      heads = no_sign;
-    }
+read_closed_size_inside at = plain_shape (λ n. Made (λ (i : Inside). size_of (at, inl i)) (s.bracketed inside_part))
 
 abbrev pub read_sized : Place → Shape Size
-read_sized at =
-    record {
-      rule = λ n. Made (λ (v : Sized). size_of (at, v)) sized_part;
-      cont = arrows;
-      bars = no_sign;
-      heads = no_sign;
-    }
+read_sized at = continued_shape arrows (λ n. Made (λ (v : Sized). size_of (at, v)) sized_part)
 
 abbrev pub read_size : Shape Size
-read_size = record { rule = λ n. s.size; cont = arrows; bars = no_sign; heads = no_sign }
+read_size = continued_shape arrows (λ n. s.size)
 
 abbrev pub read_closed_size : Shape Size
-read_closed_size = record { rule = λ n. s.bracketed s.size; cont = no_sign; bars = no_sign; heads = no_sign }
+read_closed_size = plain_shape (λ n. s.bracketed s.size)
 
 abbrev pub read_cast : Shape Cast
-read_cast = record { rule = λ n. s.cast; cont = no_sign; bars = no_sign; heads = no_sign }
+read_cast = plain_shape (λ n. s.cast)
 
 abbrev pub read_maybe_cast : Shape (Option Cast)
-read_maybe_cast = record { rule = λ n. s.optional s.cast; cont = opens; bars = no_sign; heads = no_sign }
+read_maybe_cast = continued_shape opens (λ n. s.optional s.cast)
 
 abbrev pub read_malloc : Shape Rhs
-read_malloc =
-    record {
-      rule = λ n. Made s.malloc_of (s.optional s.cast then s.at sign.Malloc then s.bracketed s.size);
-      cont = no_sign;
-      bars = no_sign;
-      heads = no_sign;
-    }
+read_malloc = plain_shape (λ n. Made s.malloc_of (s.optional s.cast then s.at sign.Malloc then s.bracketed s.size))
 
 abbrev pub read_operand_rhs : Shape Rhs
-read_operand_rhs = record
-    { rule = λ n. Made rhs'.Operand (s.operand n); cont = operand_goes_on; bars = no_sign; heads = no_sign }
+read_operand_rhs = continued_shape operand_goes_on (λ n. Made rhs'.Operand (s.operand n))
 
 abbrev pub read_rhs : Shape Rhs
-read_rhs = record { rule = s.rhs; cont = operand_goes_on; bars = no_sign; heads = no_sign }
+read_rhs = continued_shape operand_goes_on s.rhs
 
 abbrev pub read_called_simple : Name → Shape Simple
 read_called_simple name =
-    record {
-      rule = λ n. Made (λ (os : List Operand). simple_word (name, inl os)) (s.arguments (s.argument n));
-      cont = no_sign;
-      bars = no_sign;
-      heads = no_sign;
-    }
+    plain_shape (λ n. Made (λ (os : List Operand). simple_word (name, inl os)) (s.arguments (s.argument n)))
 
 abbrev pub read_assigned : Name → Shape Simple
-read_assigned name = record {
-  rule = λ n. Made (λ (q : List Arrow × (Token × Rhs)). simple_word (name, inr q))
-      (Many s.arrow then token sign.Assign then s.rhs n);
-  cont = operand_goes_on;
-  bars = no_sign;
-  heads = no_sign;
-}
+read_assigned name =
+    continued_shape operand_goes_on (λ n. Made (λ (q : List Arrow × (Token × Rhs)). simple_word (name, inr q))
+    (Many s.arrow then token sign.Assign then s.rhs n))
 
 abbrev pub read_after_name : Name → Shape Simple
-read_after_name name = record {
-  rule = λ n. Made (λ (a : After). simple_word (name, a)) (after_part (s.arguments (s.argument n)) (s.rhs n));
-  cont = operand_goes_on;
-  bars = no_sign;
-  heads = no_sign;
-}
+read_after_name name =
+    continued_shape operand_goes_on (λ n. Made (λ (a : After). simple_word (name, a)) (after_part (s.arguments
+    (s.argument n)) (s.rhs n)))
 
 abbrev pub read_word_simple : Shape Simple
-read_word_simple = record {
-  rule = λ n. Made simple_word (s.name then after_part (s.arguments (s.argument n)) (s.rhs n));
-  cont = operand_goes_on;
-  bars = no_sign;
-  heads = no_sign;
-}
+read_word_simple =
+    continued_shape operand_goes_on (λ n. Made simple_word (s.name then after_part (s.arguments (s.argument n))
+    (s.rhs n)))
 
 abbrev pub read_free : Shape Simple
-read_free =
-    record {
-      rule = λ n. Made s.free_of (s.at sign.Free then s.bracketed s.path);
-      cont = no_sign;
-      bars = no_sign;
-      heads = no_sign;
-    }
+read_free = plain_shape (λ n. Made s.free_of (s.at sign.Free then s.bracketed s.path))
 
 abbrev pub read_simple : Shape Simple
-read_simple = record { rule = s.simple; cont = operand_goes_on; bars = no_sign; heads = no_sign }
+read_simple = continued_shape operand_goes_on s.simple

@@ -24,200 +24,124 @@ use Rattle.c_grammar.specs.Syntax as s
 use Rattle.c_grammar.specs.declared.signs.Sign.{Sign}
 use Rattle.c_grammar.specs.declared.signs.Sign.TheVariants as sign
 use Rattle.c_grammar.specs.words.Parted.{declarator_goes_on, declarators_go_on, begins_part, begins_level}
-use Rattle.c_grammar.specs.words.Parted.{simple_goes_on, maybe_cond_goes_on, for_head}
+use Rattle.c_grammar.specs.words.Parted.{simple_goes_on, maybe_cond_goes_on, for_head, star_declarator}
 use Rattle.c_grammar.specs.words.Sets.{no_sign, elses, operand_goes_on, begins_nested}
 use Rattle.c_grammar.specs.words.Sets.{begins_operand}
-use Rattle.c_grammar.specs.words.Shapes.{Shape}
+use Rattle.c_grammar.specs.words.Shapes.{Shape, plain_shape, continued_shape, barred_shape}
 
 -- a word, and a name behind it
 abbrev pub read_named : Sign → Shape (Place × Name)
-read_named word = record { rule = λ n. s.at word then s.name; cont = no_sign; bars = no_sign; heads = no_sign }
+read_named word = plain_shape (λ n. s.at word then s.name)
 
 abbrev pub read_int_data : Shape Data
-read_int_data = record { rule = λ n. Made data'.Int (s.at sign.Int); cont = no_sign; bars = no_sign; heads = no_sign }
+read_int_data = plain_shape (λ n. Made data'.Int (s.at sign.Int))
 
 abbrev pub read_enum_data : Shape Data
-read_enum_data =
-    record { rule = λ n. Made s.enum_of (s.at sign.Enum then s.name); cont = no_sign; bars = no_sign; heads = no_sign }
+read_enum_data = plain_shape (λ n. Made s.enum_of (s.at sign.Enum then s.name))
 
 abbrev pub read_data : Shape Data
-read_data = record { rule = λ n. s.data_part; cont = no_sign; bars = no_sign; heads = no_sign }
+read_data = plain_shape (λ n. s.data_part)
 
 abbrev pub read_initial : Shape Rhs
-read_initial =
-    record {
-      rule = λ n. Made s.second (token sign.Assign then s.rhs n);
-      cont = operand_goes_on;
-      bars = no_sign;
-      heads = no_sign;
-    }
+read_initial = continued_shape operand_goes_on (λ n. s.behind sign.Assign (s.rhs n))
 
 abbrev pub read_maybe_from : Shape (Option Rhs)
-read_maybe_from = record {
-  rule = λ n. s.optional (Made s.second (token sign.Assign then s.rhs n));
-  cont = declarator_goes_on;
-  bars = no_sign;
-  heads = no_sign;
-}
+read_maybe_from = continued_shape declarator_goes_on (λ n. s.optional (s.behind sign.Assign (s.rhs n)))
 
 abbrev pub read_declarator : Shape Declarator
-read_declarator = record { rule = s.declarator; cont = declarator_goes_on; bars = no_sign; heads = no_sign }
+read_declarator = continued_shape declarator_goes_on s.declarator
 
 -- a declarator with what it starts with, behind a star where pointers are declared
 abbrev pub init_declarator : Bool → Rule Declarator
-init_declarator true = λ n. Made s.second (token sign.Star then s.declarator n)
+init_declarator true = star_declarator
 init_declarator false = s.declarator
 
 abbrev pub read_init_declarator : Bool → Shape Declarator
-read_init_declarator starred =
-    record { rule = init_declarator starred; cont = declarator_goes_on; bars = no_sign; heads = no_sign }
+read_init_declarator starred = continued_shape declarator_goes_on (init_declarator starred)
 
 abbrev pub read_next_declarator : Bool → Shape Declarator
-read_next_declarator starred = record {
-  rule = λ n. Made s.second (token sign.Comma then init_declarator starred n);
-  cont = declarator_goes_on;
-  bars = no_sign;
-  heads = no_sign;
-}
+read_next_declarator starred =
+    continued_shape declarator_goes_on (λ n. s.behind sign.Comma (init_declarator starred n))
 
 abbrev pub read_more_declarators : Bool → Shape (List Declarator)
-read_more_declarators starred = record {
-  rule = λ n. Many (Made s.second (token sign.Comma then init_declarator starred n));
-  cont = declarators_go_on;
-  bars = no_sign;
-  heads = no_sign;
-}
+read_more_declarators starred =
+    continued_shape declarators_go_on (λ n. Many (s.behind sign.Comma (init_declarator starred n)))
 
 abbrev pub read_declarators : Bool → Shape (List Declarator)
-read_declarators starred = record {
-  rule = λ n. s.series sign.Comma (init_declarator starred n);
-  cont = declarators_go_on;
-  bars = no_sign;
-  heads = no_sign;
-}
+read_declarators starred = continued_shape declarators_go_on (λ n. s.series sign.Comma (init_declarator starred n))
 
 abbrev pub read_pointer_declare : Shape Declare
-read_pointer_declare = record {
-  rule = λ n. Made s.pointers_of
-      (s.at sign.Struct then s.name then s.series sign.Comma (Made s.second (token sign.Star then s.declarator n))
-      then token sign.Semicolon);
-  cont = no_sign;
-  bars = no_sign;
-  heads = no_sign;
-}
+read_pointer_declare =
+    plain_shape (λ n. Made s.pointers_of (s.at sign.Struct then s.name then s.series sign.Comma (star_declarator n) then
+    token sign.Semicolon))
 
 abbrev pub read_datum_declare : Shape Declare
-read_datum_declare = record {
-  rule = λ n. Made s.datums_of (s.data_part then s.series sign.Comma (s.declarator n) then token sign.Semicolon);
-  cont = no_sign;
-  bars = no_sign;
-  heads = no_sign;
-}
+read_datum_declare =
+    plain_shape (λ n. Made s.datums_of (s.data_part then s.series sign.Comma (s.declarator n)
+    then token sign.Semicolon))
 
 abbrev pub read_declare : Shape Declare
-read_declare = record { rule = s.declare; cont = no_sign; bars = no_sign; heads = no_sign }
+read_declare = plain_shape s.declare
 
 abbrev pub read_empty : Shape Stmt
-read_empty =
-    record { rule = λ n. Made stmt'.Empty (s.at sign.Semicolon); cont = no_sign; bars = no_sign; heads = no_sign }
+read_empty = plain_shape (λ n. Made stmt'.Empty (s.at sign.Semicolon))
 
 abbrev pub read_simple_stmt : Shape Stmt
-read_simple_stmt = record {
-  rule = λ n. Made s.simple_of (s.simple n then token sign.Semicolon);
-  cont = no_sign;
-  bars = no_sign;
-  heads = no_sign;
-}
+read_simple_stmt = plain_shape (λ n. Made s.simple_of (s.simple n then token sign.Semicolon))
 
 abbrev pub read_maybe_operand : Shape (Option Operand)
-read_maybe_operand = record {
-  rule = λ n. s.optional (s.operand n);
-  cont = (λ x. or_on (operand_goes_on x) (begins_operand x));
-  bars = no_sign;
-  heads = no_sign;
-}
+read_maybe_operand = continued_shape (λ x. or_on (operand_goes_on x) (begins_operand x)) (λ n. s.optional (s.operand n))
 
 abbrev pub read_return_stmt : Shape Stmt
-read_return_stmt = record {
-  rule = λ n. Made s.return_of (s.at sign.Return then s.optional (s.operand n) then token sign.Semicolon);
-  cont = no_sign;
-  bars = no_sign;
-  heads = no_sign;
-}
+read_return_stmt =
+    plain_shape (λ n. Made s.return_of (s.at sign.Return then s.optional (s.operand n) then token sign.Semicolon))
 
 -- a word, and a semicolon behind it
 abbrev pub read_ended : Sign → Shape Place
-read_ended word = record {
-  rule = λ n. Made s.first (s.at word then token sign.Semicolon);
-  cont = no_sign;
-  bars = no_sign;
-  heads = no_sign;
-}
+read_ended word = plain_shape (λ n. Made s.first (s.at word then token sign.Semicolon))
 
 abbrev pub read_assert_stmt : Shape Stmt
-read_assert_stmt = record {
-  rule = λ n. Made s.assert_of (s.at sign.Assert then s.bracketed (s.cond n) then token sign.Semicolon);
-  cont = no_sign;
-  bars = no_sign;
-  heads = no_sign;
-}
+read_assert_stmt =
+    plain_shape (λ n. Made s.assert_of (s.at sign.Assert then s.bracketed (s.cond n) then token sign.Semicolon))
 
 abbrev pub read_flat : Shape Stmt
-read_flat = record { rule = s.flat_stmt; cont = no_sign; bars = no_sign; heads = no_sign }
+read_flat = plain_shape s.flat_stmt
 
 abbrev pub read_first_declare : Shape First
-read_first_declare = record
-    { rule = λ n. Made first'.Declare (s.declare n); cont = no_sign; bars = no_sign; heads = no_sign }
+read_first_declare = plain_shape (λ n. Made first'.Declare (s.declare n))
 
 abbrev pub read_maybe_first : Shape First
-read_maybe_first = record {
-  rule = λ n. Made first'.Simple (s.simple n) or empty first'.Nothing;
-  cont = simple_goes_on;
-  bars = no_sign;
-  heads = no_sign;
-}
+read_maybe_first = continued_shape simple_goes_on (λ n. Made first'.Simple (s.simple n) or empty first'.Nothing)
 
 abbrev pub read_first_simple : Shape First
-read_first_simple = record {
-  rule = λ n. Made s.first ((Made first'.Simple (s.simple n) or empty first'.Nothing) then token sign.Semicolon);
-  cont = no_sign;
-  bars = no_sign;
-  heads = no_sign;
-}
+read_first_simple =
+    plain_shape (λ n. Made s.first ((Made first'.Simple (s.simple n) or empty first'.Nothing)
+    then token sign.Semicolon))
 
 abbrev pub read_first : Shape First
-read_first =
-    record { rule = λ n. s.first_part (s.declare n) (s.simple n); cont = no_sign; bars = no_sign; heads = no_sign }
+read_first = plain_shape (λ n. s.first_part (s.declare n) (s.simple n))
 
 abbrev pub read_maybe_cond : Shape (Option Cond)
 read_maybe_cond = record
     { rule = λ n. s.optional (s.cond n); cont = maybe_cond_goes_on; bars = no_sign; heads = begins_nested }
 
 abbrev pub read_maybe_simple : Shape (Option Simple)
-read_maybe_simple = record
-    { rule = λ n. s.optional (s.simple n); cont = simple_goes_on; bars = no_sign; heads = no_sign }
+read_maybe_simple = continued_shape simple_goes_on (λ n. s.optional (s.simple n))
 
 abbrev pub read_stmt : Shape Stmt
 read_stmt = record { rule = s.stmt; cont = no_sign; bars = elses; heads = begins_level }
 
 -- a word, and a condition in brackets behind it
 abbrev pub read_tested : Sign → Shape (Place × Cond)
-read_tested word =
-    record { rule = λ n. s.at word then s.bracketed (s.cond n); cont = no_sign; bars = no_sign; heads = no_sign }
+read_tested word = plain_shape (λ n. s.at word then s.bracketed (s.cond n))
 
 abbrev pub read_for_head : Shape (Place × First × Option Cond × Option Simple)
-read_for_head = record { rule = for_head; cont = no_sign; bars = no_sign; heads = no_sign }
+read_for_head = plain_shape for_head
 
 abbrev pub read_do_tail : Shape Cond
 read_do_tail =
-    record {
-      rule = λ n. Made (λ (q : Token × (Cond × Token)). q.1.0)
-          (token sign.While then s.bracketed (s.cond n) then token sign.Semicolon);
-      cont = no_sign;
-      bars = no_sign;
-      heads =
-          no_sign;
-    }
+    plain_shape (λ n. Made (λ (q : Token × (Cond × Token)). q.1.0) (token sign.While then s.bracketed (s.cond n)
+    then token sign.Semicolon))
 
 abbrev pub read_part : Shape part.Part
 read_part =
@@ -238,59 +162,32 @@ read_parts =
     }
 
 abbrev pub read_block : Shape Block
-read_block = record { rule = s.inner_block; cont = no_sign; bars = elses; heads = no_sign }
+read_block = barred_shape elses s.inner_block
 
 abbrev pub read_other : Shape (Option Stmt)
-read_other = record { rule = λ n. s.other_part (s.stmt n); cont = no_sign; bars = elses; heads = no_sign }
+read_other = barred_shape elses (λ n. s.other_part (s.stmt n))
 
 abbrev pub read_if_stmt : Shape Stmt
 read_if_stmt =
-    record {
-      rule = λ n. Made s.if_of (s.at sign.If then s.bracketed (s.cond n) then s.stmt n then s.other_part (s.stmt n));
-      cont = no_sign;
-      bars = elses;
-      heads = no_sign;
-    }
+    barred_shape elses (λ n. Made s.if_of (s.at sign.If then s.bracketed (s.cond n) then s.stmt n then s.other_part
+    (s.stmt n)))
 
 abbrev pub read_while_stmt : Shape Stmt
-read_while_stmt = record {
-  rule = λ n. Made s.while_of (s.at sign.While then s.bracketed (s.cond n) then s.stmt n);
-  cont = no_sign;
-  bars = elses;
-  heads = no_sign;
-}
+read_while_stmt = barred_shape elses (λ n. Made s.while_of (s.at sign.While then s.bracketed (s.cond n) then s.stmt n))
 
 abbrev pub read_do_stmt : Shape Stmt
 read_do_stmt =
-    record {
-      rule = λ n. Made s.do_of
-          (s.at sign.Do then s.stmt n then token sign.While then s.bracketed (s.cond n) then token sign.Semicolon);
-      cont =
-          no_sign;
-      bars = elses;
-      heads = no_sign;
-    }
+    barred_shape elses (λ n. Made s.do_of (s.at sign.Do then s.stmt n then token sign.While then s.bracketed (s.cond n)
+    then token sign.Semicolon))
 
 abbrev pub read_for_stmt : Shape Stmt
 read_for_stmt =
-    record {
-      rule = λ n. Made s.for_of
-          (s.at sign.For then token sign.Open then s.first_part (s.declare n) (s.simple n) then s.optional (s.cond n)
-          then token sign.Semicolon then s.optional (s.simple n) then token sign.Close then s.stmt n);
-      cont = no_sign;
-      bars = elses;
-      heads = no_sign;
-    }
+    barred_shape elses (λ n. Made s.for_of (s.at sign.For then token sign.Open then s.first_part (s.declare n)
+    (s.simple n) then s.optional (s.cond n) then token sign.Semicolon then s.optional (s.simple n) then token sign.Close
+    then s.stmt n))
 
 abbrev pub read_nested : Shape Stmt
-read_nested =
-    record {
-      rule = λ n. s.nested_stmt (s.declare n) (s.simple n) (s.cond n) (s.stmt n);
-      cont = no_sign;
-      bars = elses;
-      heads = no_sign;
-    }
+read_nested = barred_shape elses (λ n. s.nested_stmt (s.declare n) (s.simple n) (s.cond n) (s.stmt n))
 
 abbrev pub read_block_stmt : Shape Stmt
-read_block_stmt = record
-    { rule = λ n. Made stmt'.Block (s.inner_block n); cont = no_sign; bars = elses; heads = no_sign }
+read_block_stmt = barred_shape elses (λ n. Made stmt'.Block (s.inner_block n))

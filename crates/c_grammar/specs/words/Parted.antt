@@ -32,7 +32,7 @@ use Rattle.c_grammar.specs.Items as i
 use Rattle.c_grammar.specs.Items.{braced_fields, Enumerated, enum_body, closed_params, head, head_of}
 use Rattle.c_grammar.specs.Signs.{or_on}
 use Rattle.c_grammar.specs.Syntax as s
-use Rattle.c_grammar.specs.Syntax.{at, name, path, arrow, second, bracketed, optional, declarator, declarator_of}
+use Rattle.c_grammar.specs.Syntax.{at, name, path, arrow, behind, bracketed, optional, declarator, declarator_of}
 use Rattle.c_grammar.specs.Syntax.{declare, simple, cond, first_part, block, rhs}
 use Rattle.c_grammar.specs.declared.signs.Sign.TheVariants as sign
 use Rattle.c_grammar.specs.words.Sets.{Signs, among, commas, begins_declare, begins_stmt, begins_cond, cond_goes_on}
@@ -42,7 +42,7 @@ abbrev pub Inside : Type 0
 Inside = Name ⊎ (Place × Path)
 
 abbrev pub inside_part : Part Inside
-inside_part = Made inl (Made second (token sign.Struct then name)) or Made inr (at sign.Star then path)
+inside_part = Made inl (behind sign.Struct name) or Made inr (at sign.Star then path)
 
 abbrev pub Sized : Type 0
 Sized = Inside ⊎ (Place × Path)
@@ -130,33 +130,32 @@ abbrev pub Declared : Type 0
 Declared = Option Rhs × (List Declarator × Token)
 
 abbrev pub maybe_from : Rule (Option Rhs)
-maybe_from n = optional (Made second (token sign.Assign then rhs n))
+maybe_from n = optional (behind sign.Assign (rhs n))
 
 abbrev pub Rest : Type 0
 Rest = Called ⊎ Declared
 
+abbrev pub star_declarator : Rule Declarator
+star_declarator n = behind sign.Star (declarator n)
+
+-- what the first name starts with, and more declarators of this rule
+abbrev pub declared_with : Rule Declarator → Rule Declared
+declared_with A n = maybe_from n then Many (behind sign.Comma (A n)) then token sign.Semicolon
+
+abbrev pub rest_with : Rule Declarator → Rule Rest
+rest_with A n = Made inl (called n) or Made inr (declared_with A n)
+
 abbrev pub data_rest : Rule Rest
-data_rest n = Made inl (called n) or Made inr
-    (maybe_from n then Many (Made second (token sign.Comma then declarator n)) then token sign.Semicolon)
+data_rest = rest_with declarator
 
 abbrev pub pointer_rest : Rule Rest
-pointer_rest n = Made inl (called n) or Made inr
-    (maybe_from n then Many (Made second (token sign.Comma then Made second (token sign.Star then declarator n)))
-    then token sign.Semicolon)
+pointer_rest = rest_with star_declarator
 
 abbrev pub begins_rest : Signs
 begins_rest = among (sign.Open ∷ (sign.Assign ∷ (sign.Comma ∷ (sign.Semicolon ∷ []))))
 
 abbrev pub begins_declared : Signs
 begins_declared = among (sign.Assign ∷ (sign.Comma ∷ (sign.Semicolon ∷ [])))
-
-abbrev pub data_declared : Rule Declared
-data_declared n = maybe_from n then Many (Made second (token sign.Comma then declarator n)) then token sign.Semicolon
-
-abbrev pub pointer_declared : Rule Declared
-pointer_declared n = maybe_from n
-    then Many (Made second (token sign.Comma then Made second (token sign.Star then declarator n)))
-    then token sign.Semicolon
 
 -- the five beginnings of an item
 abbrev pub head_item : ReturnType → Name → Called → Item

@@ -21,21 +21,20 @@ brackets = enclosed (good_one sign.Open) (closed good_cond (real sign.Close tt) 
 
 pub returns-in_err-rest-clause-err : goal.returns-in_err-rest-clause-err
 returns-in_err-rest-clause-err c =
-    passed c.from_residual.result (Stops read_closed_cond c.args.bounds.now c.args.left.now) c.in_err-rest.field-0.0
-    c.from_residual.ensures.1
+    passed c.from_residual.result (Stops read_closed_cond c.args.bounds.now c.args.left.now) c.from_residual.ensures.1
     (outer_fails brackets s.middle (fails_token sign.Open (real sign.Open tt) c.in_err-rest.ensures.err))
 
 pub returns-in_err-cond-clause-err : goal.returns-in_err-cond-clause-err
 returns-in_err-cond-clause-err c =
     passed c.from_residual-in_err-cond.result (Stops read_closed_cond c.args.bounds.now c.args.left.now)
-    c.in_err-cond.field-0.0 c.from_residual-in_err-cond.ensures.1
+    c.from_residual-in_err-cond.ensures.1
     (inner_fails_of brackets s.middle (ends_one sign.Open refl) (reads_token sign.Open c.in_ok-rest.ensures.ok)
     c.in_err-cond.ensures.err)
 
 pub returns-in_err-rest-2-clause-err : goal.returns-in_err-rest-2-clause-err
 returns-in_err-rest-2-clause-err c =
     passed c.from_residual-in_err-rest-2.result (Stops read_closed_cond c.args.bounds.now c.args.left.now)
-    c.in_err-rest-2.field-0.0 c.from_residual-in_err-rest-2.ensures.1
+    c.from_residual-in_err-rest-2.ensures.1
     (end_fails brackets s.middle (reads_token sign.Open c.in_ok-rest.ensures.ok) c.in_ok-cond.ensures.ok
     c.in_err-rest-2.ensures.err)
 

@@ -8,8 +8,8 @@ use Rattle.c_operands.proofs.conditions.comparison.Goals as goal
 
 pub returns-in_err-first-clause-err : goal.returns-in_err-first-clause-err
 returns-in_err-first-clause-err c =
-    passed c.from_residual.result (Stops a_comparison c.args.bounds.now c.args.left.now) c.in_err-first.field-0.0
-    c.from_residual.ensures.1 (bad_left _ _ _ _ c.in_err-first.ensures.err)
+    passed c.from_residual.result (Stops a_comparison c.args.bounds.now c.args.left.now) c.from_residual.ensures.1
+    (bad_left _ _ _ _ c.in_err-first.ensures.err)
 
 pub returns-then-not-begins_side-clause-ok : goal.returns-then-not-begins_side-clause-ok
 returns-then-not-begins_side-clause-ok c =
@@ -19,7 +19,7 @@ returns-then-not-begins_side-clause-ok c =
 pub returns-in_err-equal-clause-err : goal.returns-in_err-equal-clause-err
 returns-in_err-equal-clause-err c =
     passed c.from_residual-in_err-equal.result (Stops a_comparison c.args.bounds.now c.args.left.now)
-    c.in_err-equal.field-0.0 c.from_residual-in_err-equal.ensures.1
+    c.from_residual-in_err-equal.ensures.1
     (bad_sides _ _ _ _ _ c.in_ok-first.ensures.ok _
     (sym (ap (λ s. equals s) c.peek.ensures) ∙ sym c.begins_side.ensures ∙ c.if-not-begins_side.false)
     c.in_err-equal.ensures.err)
@@ -27,7 +27,7 @@ returns-in_err-equal-clause-err c =
 pub returns-in_err-right-clause-err : goal.returns-in_err-right-clause-err
 returns-in_err-right-clause-err c =
     passed c.from_residual-in_err-right.result (Stops a_comparison c.args.bounds.now c.args.left.now)
-    c.in_err-right.field-0.0 c.from_residual-in_err-right.ensures.1
+    c.from_residual-in_err-right.ensures.1
     (bad_right _ _ _ _ _ c.in_ok-first.ensures.ok _ _ _
     (sym (ap (λ s. equals s) c.peek.ensures) ∙ sym c.begins_side.ensures ∙ c.if-not-begins_side.false)
     c.in_ok-equal.ensures.ok c.in_err-right.ensures.err)

@@ -12,7 +12,7 @@ pub returns-in_err-rest-2-clause-err : goal.returns-in_err-rest-2-clause-err
 returns-in_err-rest-2-clause-err c =
     let f = c.in_err-rest-2.ensures.err in
     passed c.from_residual-in_err-rest-2.result (Stops two_sides c.args.bounds.now c.args.left.now)
-    c.in_err-rest-2.field-0.0 c.from_residual-in_err-rest-2.ensures.1
+    c.from_residual-in_err-rest-2.ensures.1
     (no_sides _ _ _ _ f.0 (sym c.is_next.ensures ∙ c.if-is_next.false) f.1)
 
 pub returns-clause-ok : goal.returns-clause-ok

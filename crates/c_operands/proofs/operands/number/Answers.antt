@@ -8,13 +8,12 @@ use Rattle.c_operands.proofs.operands.number.Goals as goal
 pub returns-in_err-token-clause-err : goal.returns-in_err-token-clause-err
 returns-in_err-token-clause-err c =
     let f = c.in_err-token.ensures.err in
-    passed c.from_residual.result (Stops a_literal c.args.bounds.now c.args.left.now) c.in_err-token.field-0.0
-    c.from_residual.ensures.1
+    passed c.from_residual.result (Stops a_literal c.args.bounds.now c.args.left.now) c.from_residual.ensures.1
     (no_literal _ _ _ _ f.0 c.requires.null c.requires.holds c.requires.fails f.1)
 
 pub returns-in_err-text-clause-err : goal.returns-in_err-text-clause-err
 returns-in_err-text-clause-err c =
-    passed c.from_residual-in_err-text.result (Stops a_literal c.args.bounds.now c.args.left.now) _
+    passed c.from_residual-in_err-text.result (Stops a_literal c.args.bounds.now c.args.left.now)
     c.from_residual-in_err-text.ensures.1 no_memory
 
 pub returns-clause-ok : goal.returns-clause-ok

@@ -24,15 +24,14 @@ returns-then-not-is_next-clause-err c =
 
 pub returns-in_err-name-clause-err : goal.returns-in_err-name-clause-err
 returns-in_err-name-clause-err c =
-    passed c.from_residual.result (Stops an_operand c.args.bounds.now c.args.left.now) c.in_err-name.field-0.0
-    c.from_residual.ensures.1
+    passed c.from_residual.result (Stops an_operand c.args.bounds.now c.args.left.now) c.from_residual.ensures.1
     (no_name (good_arguments good_argument) same_operand _ _ _ _ (sym c.is_next.ensures ∙ c.if-not-is_next.false)
     c.in_err-name.ensures.err)
 
 pub returns-in_err-arrows-clause-err : goal.returns-in_err-arrows-clause-err
 returns-in_err-arrows-clause-err c =
     passed c.from_residual-in_err-arrows.result (Stops an_operand c.args.bounds.now c.args.left.now)
-    c.in_err-arrows.field-0.0 c.from_residual-in_err-arrows.ensures.1
+    c.from_residual-in_err-arrows.ensures.1
     (bad_arrows (good_arguments good_argument) same_operand _ _ _ _ _ (sym c.is_next.ensures ∙ c.if-not-is_next.false)
     c.in_ok-name.ensures.ok _ (sym c.is_next-2.ensures ∙ c.if-not-is_next-2.true) c.in_err-arrows.ensures.err)
 
@@ -45,7 +44,7 @@ returns-then-not-is_next-2-clause-ok c =
 pub returns-in_err-operands-clause-err : goal.returns-in_err-operands-clause-err
 returns-in_err-operands-clause-err c =
     passed c.from_residual-in_err-operands.result (Stops an_operand c.args.bounds.now c.args.left.now)
-    c.in_err-operands.field-0.0 c.from_residual-in_err-operands.ensures.1
+    c.from_residual-in_err-operands.ensures.1
     (bad_call (good_arguments good_argument) same_operand _ _ _ _ _ (sym c.is_next.ensures ∙ c.if-not-is_next.false)
     c.in_ok-name.ensures.ok _ (sym c.is_next-2.ensures ∙ c.if-not-is_next-2.false) c.in_err-operands.ensures.err)
 

@@ -13,8 +13,7 @@ use Rattle.c_operands.proofs.paths.arrow.Goals as goal
 pub returns-in_err-token-clause-err : goal.returns-in_err-token-clause-err
 returns-in_err-token-clause-err c =
     let f = c.in_err-token.ensures.err in
-    passed c.from_residual.result (Stops an_arrow c.args.bounds.now c.args.left.now) c.in_err-token.field-0.0
-    c.from_residual.ensures.1
+    passed c.from_residual.result (Stops an_arrow c.args.bounds.now c.args.left.now) c.from_residual.ensures.1
     (widen_fails _ _ _ refl refl refl
     (fails_made arrow_of _
     (in_front (good_at Arrow) good_name refl refl (least_name _)
@@ -24,7 +23,7 @@ pub returns-in_err-field-clause-err : goal.returns-in_err-field-clause-err
 returns-in_err-field-clause-err c =
     let t = c.in_ok-token.ensures.ok in
     passed c.from_residual-in_err-field.result (Stops an_arrow c.args.bounds.now c.args.left.now)
-    c.in_err-field.field-0.0 c.from_residual-in_err-field.ensures.1
+    c.from_residual-in_err-field.ensures.1
     (widen_fails _ _ _ refl refl refl
     (fails_made arrow_of _
     (in_back (good_at Arrow) good_name refl refl refl (takes_at Arrow _ _ _ _ t.0 t.1) c.in_err-field.ensures.err)))

@@ -14,13 +14,12 @@ use Rattle.c_operands.proofs.paths.name.Goals as goal
 pub returns-in_err-token-clause-err : goal.returns-in_err-token-clause-err
 returns-in_err-token-clause-err c =
     let f = c.in_err-token.ensures.err in
-    passed c.from_residual.result (Stops a_name c.args.bounds.now c.args.left.now) c.in_err-token.field-0.0
-    c.from_residual.ensures.1
+    passed c.from_residual.result (Stops a_name c.args.bounds.now c.args.left.now) c.from_residual.ensures.1
     (fails_made name_of _ (fails_one Id id_real _ _ _ _ f.0 f.1))
 
 pub returns-in_err-text-clause-err : goal.returns-in_err-text-clause-err
 returns-in_err-text-clause-err c =
-    passed c.from_residual-in_err-text.result (Stops a_name c.args.bounds.now c.args.left.now) _
+    passed c.from_residual-in_err-text.result (Stops a_name c.args.bounds.now c.args.left.now)
     c.from_residual-in_err-text.ensures.1 no_memory
 
 pub returns-clause-ok : goal.returns-clause-ok
@@ -35,10 +34,10 @@ returns-clause-ok c =
 pub returns-in_err-token-clause-named : goal.returns-in_err-token-clause-named
 returns-in_err-token-clause-named c =
     let f = c.in_err-token.ensures.err in
-    passed c.from_residual.result (λ e. sign_at c.args.left.now ≡ Id → e ≡ Memory) c.in_err-token.field-0.0
-    c.from_residual.ensures.1 (λ h. absurd (f.1 h))
+    passed c.from_residual.result (λ e. sign_at c.args.left.now ≡ Id → e ≡ Memory) c.from_residual.ensures.1
+    (λ h. absurd (f.1 h))
 
 pub returns-in_err-text-clause-named : goal.returns-in_err-text-clause-named
 returns-in_err-text-clause-named c =
-    passed c.from_residual-in_err-text.result (λ e. sign_at c.args.left.now ≡ Id → e ≡ Memory) _
+    passed c.from_residual-in_err-text.result (λ e. sign_at c.args.left.now ≡ Id → e ≡ Memory)
     c.from_residual-in_err-text.ensures.1 (λ h. refl)

@@ -12,8 +12,7 @@ use Rattle.c_operands.proofs.paths.path.Goals as goal
 
 pub returns-in_err-head-clause-err : goal.returns-in_err-head-clause-err
 returns-in_err-head-clause-err c =
-    passed c.from_residual.result (Stops a_path c.args.bounds.now c.args.left.now) c.in_err-head.field-0.0
-    c.from_residual.ensures.1
+    passed c.from_residual.result (Stops a_path c.args.bounds.now c.args.left.now) c.from_residual.ensures.1
     (widen_fails _ _ _ refl refl refl
     (fails_made path_of _
     (in_front good_name good_arrows refl refl (least_many an_arrow.rule no_sign _) c.in_err-head.ensures.err)))
@@ -21,7 +20,7 @@ returns-in_err-head-clause-err c =
 pub returns-in_err-arrows-clause-err : goal.returns-in_err-arrows-clause-err
 returns-in_err-arrows-clause-err c =
     passed c.from_residual-in_err-arrows.result (Stops a_path c.args.bounds.now c.args.left.now)
-    c.in_err-arrows.field-0.0 c.from_residual-in_err-arrows.ensures.1
+    c.from_residual-in_err-arrows.ensures.1
     (widen_fails _ _ _ refl refl refl
     (fails_made path_of _
     (in_back good_name good_arrows refl refl refl (takes_name _ _ _ _ c.in_ok-head.ensures.ok)

@@ -40,7 +40,7 @@ least_later n = least_closed later n (least_names n)
 pub returns-in_err-rest-clause-err : goal.returns-in_err-rest-clause-err
 returns-in_err-rest-clause-err c =
     passed c.from_residual.result (Stops (read_enum_body c.args.at c.args.shape) c.args.bounds.now c.args.left.now)
-    c.in_err-rest.field-0.0 c.from_residual.ensures.1
+    c.from_residual.ensures.1
     (widen_fails _ _ _ refl refl refl
     (fails_made (λ (q : i.Enumerated). i.enum_of (c.args.at, (c.args.shape, q))) _
     (in_front (good_one sign.OpenBrace) good_after_brace refl refl
@@ -49,9 +49,8 @@ returns-in_err-rest-clause-err c =
 
 pub returns-in_err-first-clause-err : goal.returns-in_err-first-clause-err
 returns-in_err-first-clause-err c =
-    passed c.from_residual-in_err-first.result
-    (Stops (read_enum_body c.args.at c.args.shape) c.args.bounds.now c.args.left.now) c.in_err-first.field-0.0
-    c.from_residual-in_err-first.ensures.1
+    passed c.from_residual-in_err-first.result (Stops (read_enum_body c.args.at c.args.shape) c.args.bounds.now
+    c.args.left.now) c.from_residual-in_err-first.ensures.1
     (widen_fails _ _ _ refl refl refl
     (fails_made (λ (q : i.Enumerated). i.enum_of (c.args.at, (c.args.shape, q))) _
     (in_back (good_one sign.OpenBrace) good_after_brace refl refl refl
@@ -60,9 +59,8 @@ returns-in_err-first-clause-err c =
 
 pub returns-in_err-later-clause-err : goal.returns-in_err-later-clause-err
 returns-in_err-later-clause-err c =
-    passed c.from_residual-in_err-later.result
-    (Stops (read_enum_body c.args.at c.args.shape) c.args.bounds.now c.args.left.now) c.in_err-later.field-0.0
-    c.from_residual-in_err-later.ensures.1
+    passed c.from_residual-in_err-later.result (Stops (read_enum_body c.args.at c.args.shape) c.args.bounds.now
+    c.args.left.now) c.from_residual-in_err-later.ensures.1
     (widen_fails _ _ _ refl refl refl
     (fails_made (λ (q : i.Enumerated). i.enum_of (c.args.at, (c.args.shape, q))) _
     (in_back (good_one sign.OpenBrace) good_after_brace refl refl refl
@@ -72,9 +70,8 @@ returns-in_err-later-clause-err c =
 
 pub returns-in_err-rest-2-clause-err : goal.returns-in_err-rest-2-clause-err
 returns-in_err-rest-2-clause-err c =
-    passed c.from_residual-in_err-rest-2.result
-    (Stops (read_enum_body c.args.at c.args.shape) c.args.bounds.now c.args.left.now) c.in_err-rest-2.field-0.0
-    c.from_residual-in_err-rest-2.ensures.1
+    passed c.from_residual-in_err-rest-2.result (Stops (read_enum_body c.args.at c.args.shape) c.args.bounds.now
+    c.args.left.now) c.from_residual-in_err-rest-2.ensures.1
     (widen_fails _ _ _ refl refl refl
     (fails_made (λ (q : i.Enumerated). i.enum_of (c.args.at, (c.args.shape, q))) _
     (in_back (good_one sign.OpenBrace) good_after_brace refl refl refl
@@ -85,15 +82,13 @@ returns-in_err-rest-2-clause-err c =
 
 pub returns-in_err-values-clause-err : goal.returns-in_err-values-clause-err
 returns-in_err-values-clause-err c =
-    passed c.from_residual-in_err-values.result
-    (Stops (read_enum_body c.args.at c.args.shape) c.args.bounds.now c.args.left.now) _
-    c.from_residual-in_err-values.ensures.1 no_memory
+    passed c.from_residual-in_err-values.result (Stops (read_enum_body c.args.at c.args.shape) c.args.bounds.now
+    c.args.left.now) c.from_residual-in_err-values.ensures.1 no_memory
 
 pub returns-in_err-append-clause-err : goal.returns-in_err-append-clause-err
 returns-in_err-append-clause-err c =
-    passed c.from_residual-in_err-append.result
-    (Stops (read_enum_body c.args.at c.args.shape) c.args.bounds.now c.args.left.now) _
-    c.from_residual-in_err-append.ensures.1 no_memory
+    passed c.from_residual-in_err-append.result (Stops (read_enum_body c.args.at c.args.shape) c.args.bounds.now
+    c.args.left.now) c.from_residual-in_err-append.ensures.1 no_memory
 
 pub returns-clause-ok : goal.returns-clause-ok
 returns-clause-ok c =

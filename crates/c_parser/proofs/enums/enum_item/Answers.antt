@@ -12,15 +12,14 @@ use Rattle.c_parser.proofs.enums.enum_item.Goals as goal
 
 pub returns-in_err-head-clause-err : goal.returns-in_err-head-clause-err
 returns-in_err-head-clause-err c =
-    passed c.from_residual.result (Stops read_enum_item c.args.bounds.now c.args.left.now) c.in_err-head.field-0.0
-    c.from_residual.ensures.1
+    passed c.from_residual.result (Stops read_enum_item c.args.bounds.now c.args.left.now) c.from_residual.ensures.1
     (head_fails sign.Enum (real sign.Enum tt) good_enum_rest refl enum_item_of (least_enum_rest _)
     c.in_err-head.ensures.err)
 
 pub returns-in_err-item-clause-err : goal.returns-in_err-item-clause-err
 returns-in_err-item-clause-err c =
     passed c.from_residual-in_err-item.result (Stops read_enum_item c.args.bounds.now c.args.left.now)
-    c.in_err-item.field-0.0 c.from_residual-in_err-item.ensures.1
+    c.from_residual-in_err-item.ensures.1
     (rest_fails sign.Enum (real sign.Enum tt) good_enum_rest refl enum_item_of c.in_ok-head.ensures.ok
     c.in_err-item.ensures.err)
 

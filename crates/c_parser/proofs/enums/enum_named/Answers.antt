@@ -16,16 +16,15 @@ use Rattle.c_parser.proofs.enums.enum_named.Goals as goal
 pub returns-in_err-name-clause-err : goal.returns-in_err-name-clause-err
 returns-in_err-name-clause-err c =
     passed c.from_residual.result (Stops (read_enum_named c.args.at c.args.shape) c.args.bounds.now c.args.left.now)
-    c.in_err-name.field-0.0 c.from_residual.ensures.1
+    c.from_residual.ensures.1
     (widen_fails _ _ _ refl refl refl
     (fails_made (λ (q : Name × Rest). enum_item_of (c.args.at, (c.args.shape, inr q))) _
     (in_front good_name good_data_rest refl refl (least_data_rest _) c.in_err-name.ensures.err)))
 
 pub returns-in_err-item-clause-err : goal.returns-in_err-item-clause-err
 returns-in_err-item-clause-err c =
-    passed c.from_residual-in_err-item.result
-    (Stops (read_enum_named c.args.at c.args.shape) c.args.bounds.now c.args.left.now) c.in_err-item.field-0.0
-    c.from_residual-in_err-item.ensures.1
+    passed c.from_residual-in_err-item.result (Stops (read_enum_named c.args.at c.args.shape) c.args.bounds.now
+    c.args.left.now) c.from_residual-in_err-item.ensures.1
     (widen_fails _ _ _ refl refl refl
     (fails_made (λ (q : Name × Rest). enum_item_of (c.args.at, (c.args.shape, inr q))) _
     (in_back good_name good_data_rest refl refl refl (takes_name _ _ _ _ c.in_ok-name.ensures.ok)

@@ -17,12 +17,12 @@ names-init c =
 
 pub returns-in_err-next-clause-err : goal.returns-in_err-next-clause-err
 returns-in_err-next-clause-err c =
-    passed c.from_residual.result (Stops read_more_names c.args.bounds.now c.args.left.now) c.in_err-next.field-0.0
-    c.from_residual.ensures.1 (names_fails _ _ _ _ _ c.names.invariant.walks _ c.in_err-next.ensures.err)
+    passed c.from_residual.result (Stops read_more_names c.args.bounds.now c.args.left.now) c.from_residual.ensures.1
+    (names_fails _ _ _ _ _ c.names.invariant.walks _ c.in_err-next.ensures.err)
 
 pub returns-in_err-push-in-Some-clause-err : goal.returns-in_err-push-in-Some-clause-err
 returns-in_err-push-in-Some-clause-err c =
-    passed c.from_residual-in_err-push-in-Some.result (Stops read_more_names c.args.bounds.now c.args.left.now) _
+    passed c.from_residual-in_err-push-in-Some.result (Stops read_more_names c.args.bounds.now c.args.left.now)
     c.from_residual-in_err-push-in-Some.ensures.1 no_memory
 
 pub names-preserved : goal.names-preserved

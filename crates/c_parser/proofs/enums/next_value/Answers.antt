@@ -10,7 +10,7 @@ use Rattle.c_parser.proofs.enums.next_value.Goals as goal
 pub returns-in_err-rest-clause-err : goal.returns-in_err-rest-clause-err
 returns-in_err-rest-clause-err c = let f = c.in_err-rest.ensures.err in
     passed c.from_residual.result (ValueStops c.args.bounds.now.room c.args.bounds.now.end c.args.left.now)
-    c.in_err-rest.field-0.0 c.from_residual.ensures.1
+    c.from_residual.ensures.1
     (written_none _ _ _ _ f.0 (sym c.is_next.ensures ∙ c.if-not-is_next.true) f.1)
 
 pub returns-then-not-is_next-clause-ok : goal.returns-then-not-is_next-clause-ok
@@ -20,14 +20,13 @@ returns-then-not-is_next-clause-ok c = let t = c.in_ok-rest.ensures.ok in
 pub returns-in_err-after-clause-err : goal.returns-in_err-after-clause-err
 returns-in_err-after-clause-err c = let f = c.in_err-after.ensures.err in
     passed c.from_residual-in_err-after.result (ValueStops c.args.bounds.now.room c.args.bounds.now.end c.args.left.now)
-    c.in_err-after.field-0.0 c.from_residual-in_err-after.ensures.1
+    c.from_residual-in_err-after.ensures.1
     (absurd (f.1 (one_of sign.Comma _ (sym c.is_next.ensures ∙ c.if-not-is_next.false))))
 
 pub returns-in_err-rest-2-clause-err : goal.returns-in_err-rest-2-clause-err
 returns-in_err-rest-2-clause-err c = let t = c.in_ok-after.ensures.ok in let f = c.in_err-rest-2.ensures.err in
-    passed c.from_residual-in_err-rest-2.result
-    (ValueStops c.args.bounds.now.room c.args.bounds.now.end c.args.left.now) c.in_err-rest-2.field-0.0
-    c.from_residual-in_err-rest-2.ensures.1
+    passed c.from_residual-in_err-rest-2.result (ValueStops c.args.bounds.now.room c.args.bounds.now.end
+    c.args.left.now) c.from_residual-in_err-rest-2.ensures.1
     (written_no_name _ _ _ _ _ _ t.0 t.1 f.0 (sym c.is_next-2.ensures ∙ c.if-not-is_next-2.true) f.1)
 
 pub returns-then-not-is_next-2-clause-ok : goal.returns-then-not-is_next-2-clause-ok
@@ -40,7 +39,7 @@ returns-then-not-is_next-2-clause-ok c = let t = c.in_ok-after.ensures.ok in let
 pub returns-in_err-next-clause-err : goal.returns-in_err-next-clause-err
 returns-in_err-next-clause-err c =
     passed c.from_residual-in_err-next.result (ValueStops c.args.bounds.now.room c.args.bounds.now.end c.args.left.now)
-    c.in_err-next.field-0.0 c.from_residual-in_err-next.ensures.1
+    c.from_residual-in_err-next.ensures.1
     (subst (λ e. ValueStops c.args.bounds.now.room c.args.bounds.now.end c.args.left.now e)
     (sym (c.in_err-next.ensures.named (one_of sign.Id _ (sym c.is_next-2.ensures ∙ c.if-not-is_next-2.false))))
     no_memory)

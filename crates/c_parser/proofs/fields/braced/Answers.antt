@@ -26,21 +26,20 @@ in_braces = enclosed (good_one sign.OpenBrace) (closed good_some_fields (real si
 
 pub returns-in_err-rest-clause-err : goal.returns-in_err-rest-clause-err
 returns-in_err-rest-clause-err c =
-    passed c.from_residual.result (Stops read_braced c.args.bounds.now c.args.left.now) c.in_err-rest.field-0.0
-    c.from_residual.ensures.1
+    passed c.from_residual.result (Stops read_braced c.args.bounds.now c.args.left.now) c.from_residual.ensures.1
     (outer_fails in_braces s.middle (fails_token sign.OpenBrace (real sign.OpenBrace tt) c.in_err-rest.ensures.err))
 
 pub returns-in_err-fields-clause-err : goal.returns-in_err-fields-clause-err
 returns-in_err-fields-clause-err c =
     passed c.from_residual-in_err-fields.result (Stops read_braced c.args.bounds.now c.args.left.now)
-    c.in_err-fields.field-0.0 c.from_residual-in_err-fields.ensures.1
+    c.from_residual-in_err-fields.ensures.1
     (inner_fails in_braces s.middle refl (reads_token sign.OpenBrace c.in_ok-rest.ensures.ok)
     c.in_err-fields.ensures.err)
 
 pub returns-in_err-rest-2-clause-err : goal.returns-in_err-rest-2-clause-err
 returns-in_err-rest-2-clause-err c =
     passed c.from_residual-in_err-rest-2.result (Stops read_braced c.args.bounds.now c.args.left.now)
-    c.in_err-rest-2.field-0.0 c.from_residual-in_err-rest-2.ensures.1
+    c.from_residual-in_err-rest-2.ensures.1
     (end_fails in_braces s.middle (reads_token sign.OpenBrace c.in_ok-rest.ensures.ok) c.in_ok-fields.ensures.ok
     c.in_err-rest-2.ensures.err)
 

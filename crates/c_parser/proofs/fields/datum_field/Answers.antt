@@ -20,19 +20,19 @@ ended = enclosed good_data (closed good_names (real sign.Semicolon tt) refl refl
 
 pub returns-in_err-data-clause-err : goal.returns-in_err-data-clause-err
 returns-in_err-data-clause-err c =
-    passed c.from_residual.result (Stops read_datum_field c.args.bounds.now c.args.left.now) c.in_err-data.field-0.0
-    c.from_residual.ensures.1 (outer_fails ended i.datum_fields_of c.in_err-data.ensures.err)
+    passed c.from_residual.result (Stops read_datum_field c.args.bounds.now c.args.left.now) c.from_residual.ensures.1
+    (outer_fails ended i.datum_fields_of c.in_err-data.ensures.err)
 
 pub returns-in_err-fields-clause-err : goal.returns-in_err-fields-clause-err
 returns-in_err-fields-clause-err c =
     passed c.from_residual-in_err-fields.result (Stops read_datum_field c.args.bounds.now c.args.left.now)
-    c.in_err-fields.field-0.0 c.from_residual-in_err-fields.ensures.1
+    c.from_residual-in_err-fields.ensures.1
     (inner_fails ended i.datum_fields_of refl c.in_ok-data.ensures.ok c.in_err-fields.ensures.err)
 
 pub returns-in_err-rest-clause-err : goal.returns-in_err-rest-clause-err
 returns-in_err-rest-clause-err c =
     passed c.from_residual-in_err-rest.result (Stops read_datum_field c.args.bounds.now c.args.left.now)
-    c.in_err-rest.field-0.0 c.from_residual-in_err-rest.ensures.1
+    c.from_residual-in_err-rest.ensures.1
     (end_fails ended i.datum_fields_of c.in_ok-data.ensures.ok c.in_ok-fields.ensures.ok c.in_err-rest.ensures.err)
 
 pub returns-clause-ok : goal.returns-clause-ok

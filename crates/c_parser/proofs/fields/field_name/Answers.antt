@@ -1,15 +1,14 @@
 use Rattle.std.proofs.Common.{refl, sym, subst}
 use Rattle.std.proofs.lemmas.Result.{IfOk-weaker, IfErr-weaker}
-use Rattle.c_grammar.specs.Syntax as s
 use Rattle.c_grammar.specs.declared.signs.Sign.TheVariants as sign
 use Rattle.c_grammar.specs.words.Shapes.{IsName, a_name}
 use Rattle.c_reader.specs.Bounds.{Reads, Stops}
 use Rattle.c_parser.specs.inner.Shapes.{read_field_name}
-use Rattle.c_grammar.proofs.Goods.{good_one, good_name}
+use Rattle.c_grammar.proofs.Goods.{good_name}
 use Rattle.c_grammar.proofs.Leasts.{least_name}
-use Rattle.c_grammar.proofs.Parts.{takes_made, fails_made, takes_token}
-use Rattle.c_grammar.proofs.Steps.{passed, pair, in_front, in_back, widen_takes, widen_fails}
-use Rattle.c_grammar.proofs.Tokens.{fails_one, takes_name, real}
+use Rattle.c_grammar.proofs.Series.{word_fails, behind_fails, takes_behind}
+use Rattle.c_grammar.proofs.Steps.{passed}
+use Rattle.c_grammar.proofs.Tokens.{takes_name}
 use Rattle.c_parser.proofs.fields.field_name.Goals as goal
 
 pub returns-then-not-starred-clause-ok : goal.returns-then-not-starred-clause-ok
@@ -29,32 +28,21 @@ returns-then-not-starred-clause-err c =
 pub returns-in_err-rest-clause-err : goal.returns-in_err-rest-clause-err
 returns-in_err-rest-clause-err c =
     passed c.from_residual.result (Stops (read_field_name c.args.starred) c.args.bounds.now c.args.left.now)
-    c.in_err-rest.field-0.0 c.from_residual.ensures.1
+    c.from_residual.ensures.1
     (subst (λ b. Stops (read_field_name b) c.args.bounds.now c.args.left.now c.in_err-rest.field-0.0)
     (sym c.if-not-starred.false)
-    (widen_fails _ _ _ refl refl refl
-    (fails_made s.second _
-    (in_front (good_one sign.Star) good_name refl refl (least_name _)
-    (fails_one sign.Star (real sign.Star tt) _ _ _ _ c.in_err-rest.ensures.err.0 c.in_err-rest.ensures.err.1)))))
+    (word_fails sign.Star refl good_name (least_name _) c.in_err-rest.ensures.err))
 
 pub returns-in_err-name-clause-err : goal.returns-in_err-name-clause-err
 returns-in_err-name-clause-err c =
-    passed c.from_residual-in_err-name.result
-    (Stops (read_field_name c.args.starred) c.args.bounds.now c.args.left.now) c.in_err-name.field-0.0
+    passed c.from_residual-in_err-name.result (Stops (read_field_name c.args.starred) c.args.bounds.now c.args.left.now)
     c.from_residual-in_err-name.ensures.1
     (subst (λ b. Stops (read_field_name b) c.args.bounds.now c.args.left.now c.in_err-name.field-0.0)
     (sym c.if-not-starred.false)
-    (widen_fails _ _ _ refl refl refl
-    (fails_made s.second _
-    (in_back (good_one sign.Star) good_name refl refl refl
-    (takes_token sign.Star _ _ _ _ c.in_ok-rest.ensures.ok.0 c.in_ok-rest.ensures.ok.1) c.in_err-name.ensures.err))))
+    (behind_fails sign.Star refl good_name c.in_ok-rest.ensures.ok c.in_err-name.ensures.err))
 
 pub returns-clause-ok : goal.returns-clause-ok
 returns-clause-ok c =
     subst (λ b. Reads (read_field_name b) c.args.bounds.now c.args.left.now c.in_ok-name.rest.now c.in_ok-name.name)
     (sym c.if-not-starred.false)
-    (widen_takes _ _ refl refl
-    (takes_made s.second
-    (pair (good_one sign.Star) good_name refl
-    (takes_token sign.Star _ _ _ _ c.in_ok-rest.ensures.ok.0 c.in_ok-rest.ensures.ok.1)
-    (takes_name _ _ _ _ c.in_ok-name.ensures.ok))))
+    (takes_behind sign.Star refl good_name c.in_ok-rest.ensures.ok (takes_name _ _ _ _ c.in_ok-name.ensures.ok))

@@ -12,8 +12,7 @@ use Rattle.c_parser.proofs.fields.maybe_braced.Goals as goal
 
 pub returns-in_err-fields-clause-err : goal.returns-in_err-fields-clause-err
 returns-in_err-fields-clause-err c =
-    passed c.from_residual.result (Stops read_maybe_braced c.args.bounds.now c.args.left.now) c.in_err-fields.field-0.0
-    c.from_residual.ensures.1
+    passed c.from_residual.result (Stops read_maybe_braced c.args.bounds.now c.args.left.now) c.from_residual.ensures.1
     (widen_fails _ _ _ refl refl refl
     (left_fails (good_made (named (among (sign.OpenBrace ∷ [])) no_sign no_sign good_braced refl refl refl) Some)
     (good_nothing None) refl refl (sym c.is_next.ensures ∙ c.if-is_next.true)

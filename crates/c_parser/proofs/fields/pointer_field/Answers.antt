@@ -23,22 +23,21 @@ ended = enclosed (good_named sign.Struct) (closed good_star_names (real sign.Sem
 
 pub returns-in_err-head-clause-err : goal.returns-in_err-head-clause-err
 returns-in_err-head-clause-err c =
-    passed c.from_residual.result (Stops read_pointer_field c.args.bounds.now c.args.left.now) c.in_err-head.field-0.0
-    c.from_residual.ensures.1
+    passed c.from_residual.result (Stops read_pointer_field c.args.bounds.now c.args.left.now) c.from_residual.ensures.1
     (fails_same (same_apart i.pointer_fields_of) _
     (outer_fails ended (apart i.pointer_fields_of) c.in_err-head.ensures.err))
 
 pub returns-in_err-fields-clause-err : goal.returns-in_err-fields-clause-err
 returns-in_err-fields-clause-err c =
     passed c.from_residual-in_err-fields.result (Stops read_pointer_field c.args.bounds.now c.args.left.now)
-    c.in_err-fields.field-0.0 c.from_residual-in_err-fields.ensures.1
+    c.from_residual-in_err-fields.ensures.1
     (fails_same (same_apart i.pointer_fields_of) _
     (inner_fails ended (apart i.pointer_fields_of) refl c.in_ok-head.ensures.ok c.in_err-fields.ensures.err))
 
 pub returns-in_err-rest-clause-err : goal.returns-in_err-rest-clause-err
 returns-in_err-rest-clause-err c =
     passed c.from_residual-in_err-rest.result (Stops read_pointer_field c.args.bounds.now c.args.left.now)
-    c.in_err-rest.field-0.0 c.from_residual-in_err-rest.ensures.1
+    c.from_residual-in_err-rest.ensures.1
     (fails_same (same_apart i.pointer_fields_of) _
     (end_fails ended (apart i.pointer_fields_of) c.in_ok-head.ensures.ok c.in_ok-fields.ensures.ok
     c.in_err-rest.ensures.err))

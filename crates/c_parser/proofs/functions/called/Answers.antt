@@ -12,16 +12,15 @@ use Rattle.c_parser.proofs.functions.called.Goals as goal
 pub returns-in_err-params-clause-err : goal.returns-in_err-params-clause-err
 returns-in_err-params-clause-err c =
     passed c.from_residual.result (Stops (read_called c.args.gives c.args.name) c.args.bounds.now c.args.left.now)
-    c.in_err-params.field-0.0 c.from_residual.ensures.1
+    c.from_residual.ensures.1
     (widen_fails _ _ _ refl refl refl
     (fails_made (λ (q : Called). head_item c.args.gives c.args.name q) _
     (in_front good_closed_params good_ending refl refl (least_ending _) c.in_err-params.ensures.err)))
 
 pub returns-in_err-ending-clause-err : goal.returns-in_err-ending-clause-err
 returns-in_err-ending-clause-err c =
-    passed c.from_residual-in_err-ending.result
-    (Stops (read_called c.args.gives c.args.name) c.args.bounds.now c.args.left.now) c.in_err-ending.field-0.0
-    c.from_residual-in_err-ending.ensures.1
+    passed c.from_residual-in_err-ending.result (Stops (read_called c.args.gives c.args.name) c.args.bounds.now
+    c.args.left.now) c.from_residual-in_err-ending.ensures.1
     (widen_fails _ _ _ refl refl refl
     (fails_made (λ (q : Called). head_item c.args.gives c.args.name q) _
     (in_back good_closed_params good_ending refl refl refl c.in_ok-params.ensures.ok c.in_err-ending.ensures.err)))

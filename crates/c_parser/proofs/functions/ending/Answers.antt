@@ -17,8 +17,7 @@ use Rattle.c_parser.proofs.functions.ending.Goals as goal
 
 pub returns-in_err-rest-clause-err : goal.returns-in_err-rest-clause-err
 returns-in_err-rest-clause-err c =
-    passed c.from_residual.result (Stops read_ending c.args.bounds.now c.args.left.now) c.in_err-rest.field-0.0
-    c.from_residual.ensures.1
+    passed c.from_residual.result (Stops read_ending c.args.bounds.now c.args.left.now) c.from_residual.ensures.1
     (widen_fails _ _ _ refl refl refl
     (left_fails (good_made (good_one sign.Semicolon) no_block) (good_made good_block Some) refl refl
     (sym c.is_next.ensures ∙ c.if-is_next.true)
@@ -34,7 +33,7 @@ returns-then-is_next-clause-ok c =
 pub returns-in_err-block-clause-err : goal.returns-in_err-block-clause-err
 returns-in_err-block-clause-err c =
     passed c.from_residual-in_err-block.result (Stops read_ending c.args.bounds.now c.args.left.now)
-    c.in_err-block.field-0.0 c.from_residual-in_err-block.ensures.1
+    c.from_residual-in_err-block.ensures.1
     (widen_fails _ _ _ refl refl refl
     (right_fails (good_made (good_one sign.Semicolon) no_block) (good_made good_block Some) refl refl refl
     (sym c.is_next.ensures ∙ c.if-is_next.false)

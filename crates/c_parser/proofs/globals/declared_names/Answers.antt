@@ -19,9 +19,8 @@ use Rattle.c_parser.proofs.globals.declared_names.Goals as goal
 
 pub returns-in_err-from-clause-err : goal.returns-in_err-from-clause-err
 returns-in_err-from-clause-err c =
-    passed c.from_residual.result
-    (Stops (read_declared_names c.args.base c.args.name) c.args.bounds.now c.args.left.now) c.in_err-from.field-0.0
-    c.from_residual.ensures.1
+    passed c.from_residual.result (Stops (read_declared_names c.args.base c.args.name) c.args.bounds.now
+    c.args.left.now) c.from_residual.ensures.1
     (widen_fails _ _ _ refl refl refl
     (fails_made (λ (r : Declared). item_of c.args.base c.args.name (inr r)) _
     (in_front good_maybe_from
@@ -32,15 +31,13 @@ returns-in_err-from-clause-err c =
 
 pub returns-in_err-vars-clause-err : goal.returns-in_err-vars-clause-err
 returns-in_err-vars-clause-err c =
-    passed c.from_residual-in_err-vars.result
-    (Stops (read_declared_names c.args.base c.args.name) c.args.bounds.now c.args.left.now) _
-    c.from_residual-in_err-vars.ensures.1 no_memory
+    passed c.from_residual-in_err-vars.result (Stops (read_declared_names c.args.base c.args.name) c.args.bounds.now
+    c.args.left.now) c.from_residual-in_err-vars.ensures.1 no_memory
 
 pub returns-in_err-more-clause-err : goal.returns-in_err-more-clause-err
 returns-in_err-more-clause-err c =
-    passed c.from_residual-in_err-more.result
-    (Stops (read_declared_names c.args.base c.args.name) c.args.bounds.now c.args.left.now) c.in_err-more.field-0.0
-    c.from_residual-in_err-more.ensures.1
+    passed c.from_residual-in_err-more.result (Stops (read_declared_names c.args.base c.args.name) c.args.bounds.now
+    c.args.left.now) c.from_residual-in_err-more.ensures.1
     (widen_fails _ _ _ refl refl refl
     (fails_made (λ (r : Declared). item_of c.args.base c.args.name (inr r)) _
     (in_back good_maybe_from
@@ -53,9 +50,8 @@ returns-in_err-more-clause-err c =
 
 pub returns-in_err-rest-clause-err : goal.returns-in_err-rest-clause-err
 returns-in_err-rest-clause-err c =
-    passed c.from_residual-in_err-rest.result
-    (Stops (read_declared_names c.args.base c.args.name) c.args.bounds.now c.args.left.now) c.in_err-rest.field-0.0
-    c.from_residual-in_err-rest.ensures.1
+    passed c.from_residual-in_err-rest.result (Stops (read_declared_names c.args.base c.args.name) c.args.bounds.now
+    c.args.left.now) c.from_residual-in_err-rest.ensures.1
     (widen_fails _ _ _ refl refl refl
     (fails_made (λ (r : Declared). item_of c.args.base c.args.name (inr r)) _
     (in_back good_maybe_from
@@ -69,9 +65,8 @@ returns-in_err-rest-clause-err c =
 
 pub returns-in_err-append-clause-err : goal.returns-in_err-append-clause-err
 returns-in_err-append-clause-err c =
-    passed c.from_residual-in_err-append.result
-    (Stops (read_declared_names c.args.base c.args.name) c.args.bounds.now c.args.left.now) _
-    c.from_residual-in_err-append.ensures.1 no_memory
+    passed c.from_residual-in_err-append.result (Stops (read_declared_names c.args.base c.args.name) c.args.bounds.now
+    c.args.left.now) c.from_residual-in_err-append.ensures.1 no_memory
 
 pub returns-clause-ok : goal.returns-clause-ok
 returns-clause-ok c = takes_as _

@@ -1,65 +1,58 @@
-use Rattle.std.proofs.Common.{refl, sym, ap, subst, arith, ◌∙◌, ◌++◌, ◌∷◌, []}
+use Rattle.std.proofs.Common.{refl, sym, ap, arith, ◌∙◌, ◌++◌, ◌∷◌, []}
 use Rattle.c_grammar.specs.declared.signs.Sign.TheVariants as sign
 use Rattle.c_grammar.specs.words.Faults.Fails.{no_memory}
 use Rattle.c_grammar.specs.words.Sets.{among, no_sign, commas}
 use Rattle.c_reader.specs.Bounds.{Stops}
-use Rattle.c_parser.specs.inner.Shapes.{read_all_params, read_next_param}
-use Rattle.c_grammar.proofs.Items.{good_more_params, good_next_param, good_param}
-use Rattle.c_grammar.proofs.Lists.{Leads, lists, leads_more, leads_end, leads_stuck}
+use Rattle.c_parser.specs.inner.Shapes.{read_all_params}
+use Rattle.c_grammar.proofs.Goods.{good_next}
+use Rattle.c_grammar.proofs.Items.{good_param}
+use Rattle.c_grammar.proofs.Lists.{lists, leads_more, leads_end, leads_stuck, leads_as}
 use Rattle.c_grammar.proofs.Series.{series_fails, series_begun}
 use Rattle.c_grammar.proofs.Steps.{passed}
-use Rattle.c_grammar.proofs.Tokens.{real}
 use Rattle.c_parser.proofs.heads.all_params.Goals as goal
 
 pub returns-in_err-first-clause-err : goal.returns-in_err-first-clause-err
 returns-in_err-first-clause-err c =
-    passed c.from_residual.result (Stops read_all_params c.args.bounds.now c.args.left.now) c.in_err-first.field-0.0
-    c.from_residual.ensures.1
-    (series_fails sign.Comma (real sign.Comma tt) refl commas no_sign good_param good_more_params refl refl refl refl
-    refl refl refl _ _ _ _ c.in_err-first.ensures.err)
+    passed c.from_residual.result (Stops read_all_params c.args.bounds.now c.args.left.now) c.from_residual.ensures.1
+    (series_fails sign.Comma commas no_sign good_param refl refl refl c.in_err-first.ensures.err)
 
 pub returns-in_err-push-clause-err : goal.returns-in_err-push-clause-err
 returns-in_err-push-clause-err c =
-    passed c.from_residual-in_err-push.result (Stops read_all_params c.args.bounds.now c.args.left.now) _
+    passed c.from_residual-in_err-push.result (Stops read_all_params c.args.bounds.now c.args.left.now)
     c.from_residual-in_err-push.ensures.1 no_memory
 
 pub params-init : goal.params-init
 params-init c = record {
   shorter = c.in_ok-first.ensures.shorter;
   leads =
-      subst
-      (λ all. Leads read_next_param.rule (among (sign.Comma ∷ [])) no_sign no_sign no_sign read_all_params.rule commas
-      no_sign no_sign c.args.bounds.now.room c.args.bounds.now.end c.args.left.now c.in_ok-first.rest.now all)
-      (sym (c.in_ok-push.ensures.ok ∙ ap (λ l. l ++ c.in_ok-first.first ∷ []) c.new-all.ensures))
-      (series_begun sign.Comma (real sign.Comma tt) refl commas no_sign good_param good_more_params refl refl refl
-      refl refl refl refl _ _ _ _ _ c.in_ok-first.ensures.ok);
+      leads_as (c.in_ok-push.ensures.ok ∙ ap (λ l. l ++ c.in_ok-first.first ∷ []) c.new-all.ensures)
+      (series_begun sign.Comma commas no_sign good_param refl refl refl c.in_ok-first.ensures.ok);
 }
 
 pub returns-in_err-next-clause-err : goal.returns-in_err-next-clause-err
 returns-in_err-next-clause-err c =
     passed c.from_residual-in_err-next.result (Stops read_all_params c.args.bounds.now c.args.left.now)
-    c.in_err-next.field-0.0 c.from_residual-in_err-next.ensures.1
-    (leads_stuck good_next_param (lists (among (sign.Comma ∷ [])) no_sign no_sign no_sign refl refl refl refl refl)
+    c.from_residual-in_err-next.ensures.1
+    (leads_stuck (good_next sign.Comma good_param) (lists (among (sign.Comma ∷ [])) no_sign no_sign no_sign refl refl
+    refl refl refl)
     c.params.invariant.leads (sym c.is_next.ensures ∙ c.params-test.true) _ c.in_err-next.ensures.err)
 
 pub returns-in_err-push-2-clause-err : goal.returns-in_err-push-2-clause-err
 returns-in_err-push-2-clause-err c =
-    passed c.from_residual-in_err-push-2.result (Stops read_all_params c.args.bounds.now c.args.left.now) _
+    passed c.from_residual-in_err-push-2.result (Stops read_all_params c.args.bounds.now c.args.left.now)
     c.from_residual-in_err-push-2.ensures.1 no_memory
 
 pub params-preserved : goal.params-preserved
 params-preserved c = record {
   shorter = omega (arith, c.params.invariant.shorter, c.in_ok-next.ensures.shorter);
   leads =
-      subst
-      (λ all. Leads read_next_param.rule (among (sign.Comma ∷ [])) no_sign no_sign no_sign read_all_params.rule commas
-      no_sign no_sign c.args.bounds.now.room c.args.bounds.now.end c.args.left.now c.in_ok-next.after.now all)
-      (sym c.in_ok-push-2.ensures.ok)
-      (leads_more good_next_param (lists (among (sign.Comma ∷ [])) no_sign no_sign no_sign refl refl refl refl refl)
+      leads_as c.in_ok-push-2.ensures.ok
+      (leads_more (good_next sign.Comma good_param) (lists (among (sign.Comma ∷ [])) no_sign no_sign no_sign refl refl
+      refl refl refl)
       c.params.invariant.leads _ _ (sym c.is_next.ensures ∙ c.params-test.true) c.in_ok-next.ensures.ok);
 }
 
 pub returns-clause-ok : goal.returns-clause-ok
-returns-clause-ok c = leads_end good_next_param
+returns-clause-ok c = leads_end (good_next sign.Comma good_param)
     (lists (among (sign.Comma ∷ [])) no_sign no_sign no_sign refl refl refl refl refl) c.params.invariant.leads
     (sym c.is_next.ensures ∙ c.params-test.false)

@@ -12,8 +12,7 @@ use Rattle.c_parser.proofs.heads.datum_param.Goals as goal
 
 pub returns-in_err-data-clause-err : goal.returns-in_err-data-clause-err
 returns-in_err-data-clause-err c =
-    passed c.from_residual.result (Stops read_datum_param c.args.bounds.now c.args.left.now) c.in_err-data.field-0.0
-    c.from_residual.ensures.1
+    passed c.from_residual.result (Stops read_datum_param c.args.bounds.now c.args.left.now) c.from_residual.ensures.1
     (widen_fails _ _ _ refl refl refl
     (fails_made i.datum_param_of _
     (in_front good_data good_name refl refl (least_name _) c.in_err-data.ensures.err)))
@@ -21,7 +20,7 @@ returns-in_err-data-clause-err c =
 pub returns-in_err-variable-clause-err : goal.returns-in_err-variable-clause-err
 returns-in_err-variable-clause-err c =
     passed c.from_residual-in_err-variable.result (Stops read_datum_param c.args.bounds.now c.args.left.now)
-    c.in_err-variable.field-0.0 c.from_residual-in_err-variable.ensures.1
+    c.from_residual-in_err-variable.ensures.1
     (widen_fails _ _ _ refl refl refl
     (fails_made i.datum_param_of _
     (in_back good_data good_name refl refl refl c.in_ok-data.ensures.ok c.in_err-variable.ensures.err)))

@@ -1,50 +1,39 @@
 use Rattle.std.proofs.Common.{refl}
 use Rattle.c_grammar.specs.Items as i
-use Rattle.c_grammar.specs.Syntax as s
-use Rattle.c_grammar.specs.declared.signs.Sign.TheVariants as sign
 use Rattle.c_reader.specs.Bounds.{Stops}
 use Rattle.c_parser.specs.inner.Shapes.{read_head}
-use Rattle.c_grammar.proofs.Goods.{good_one, good_name}
+use Rattle.c_grammar.proofs.Goods.{good_name}
 use Rattle.c_grammar.proofs.Items.{good_closed_params, good_maybe_params, good_rtype}
 use Rattle.c_grammar.proofs.Leasts.{least_name, least_absent}
-use Rattle.c_grammar.proofs.Parts.{takes_made, fails_made, alive_made}
-use Rattle.c_grammar.proofs.Sequences.{least_one, least_pair}
+use Rattle.c_grammar.proofs.Parts.{takes_made, fails_made}
+use Rattle.c_grammar.proofs.Sequences.{least_pair, least_bracketed}
 use Rattle.c_grammar.proofs.Steps.{passed, pair, in_front, in_back, widen_takes, widen_fails, good_pair}
-use Rattle.c_grammar.proofs.Tokens.{takes_name, real}
+use Rattle.c_grammar.proofs.Tokens.{takes_name}
 use Rattle.c_parser.proofs.heads.head.Goals as goal
 
 pub returns-in_err-gives-clause-err : goal.returns-in_err-gives-clause-err
 returns-in_err-gives-clause-err c =
-    passed c.from_residual.result (Stops read_head c.args.bounds.now c.args.left.now) c.in_err-gives.field-0.0
-    c.from_residual.ensures.1
+    passed c.from_residual.result (Stops read_head c.args.bounds.now c.args.left.now) c.from_residual.ensures.1
     (widen_fails _ _ _ refl refl refl
     (fails_made i.head_of _
     (in_front good_rtype (good_pair good_name good_closed_params refl) refl refl
     (least_pair good_name good_closed_params refl refl _ (least_name _)
-    (alive_made s.middle
-    (least_pair (good_one sign.Open) (good_pair good_maybe_params (good_one sign.Close) refl) refl refl _
-    (least_one sign.Open (real sign.Open tt) _)
-    (least_pair good_maybe_params (good_one sign.Close) refl refl _ (least_absent _)
-    (least_one sign.Close (real sign.Close tt) _))))) c.in_err-gives.ensures.err)))
+    (least_bracketed good_maybe_params refl _ (least_absent _))) c.in_err-gives.ensures.err)))
 
 pub returns-in_err-name-clause-err : goal.returns-in_err-name-clause-err
 returns-in_err-name-clause-err c =
     passed c.from_residual-in_err-name.result (Stops read_head c.args.bounds.now c.args.left.now)
-    c.in_err-name.field-0.0 c.from_residual-in_err-name.ensures.1
+    c.from_residual-in_err-name.ensures.1
     (widen_fails _ _ _ refl refl refl
     (fails_made i.head_of _
     (in_back good_rtype (good_pair good_name good_closed_params refl) refl refl refl c.in_ok-gives.ensures.ok
     (in_front good_name good_closed_params refl refl
-    (alive_made s.middle
-    (least_pair (good_one sign.Open) (good_pair good_maybe_params (good_one sign.Close) refl) refl refl _
-    (least_one sign.Open (real sign.Open tt) _)
-    (least_pair good_maybe_params (good_one sign.Close) refl refl _ (least_absent _)
-    (least_one sign.Close (real sign.Close tt) _)))) c.in_err-name.ensures.err))))
+    (least_bracketed good_maybe_params refl _ (least_absent _)) c.in_err-name.ensures.err))))
 
 pub returns-in_err-params-clause-err : goal.returns-in_err-params-clause-err
 returns-in_err-params-clause-err c =
     passed c.from_residual-in_err-params.result (Stops read_head c.args.bounds.now c.args.left.now)
-    c.in_err-params.field-0.0 c.from_residual-in_err-params.ensures.1
+    c.from_residual-in_err-params.ensures.1
     (widen_fails _ _ _ refl refl refl
     (fails_made i.head_of _
     (in_back good_rtype (good_pair good_name good_closed_params refl) refl refl refl c.in_ok-gives.ensures.ok

@@ -12,8 +12,7 @@ use Rattle.c_parser.proofs.heads.maybe_params.Goals as goal
 
 pub returns-in_err-params-clause-err : goal.returns-in_err-params-clause-err
 returns-in_err-params-clause-err c =
-    passed c.from_residual.result (Stops read_maybe_params c.args.bounds.now c.args.left.now) c.in_err-params.field-0.0
-    c.from_residual.ensures.1
+    passed c.from_residual.result (Stops read_maybe_params c.args.bounds.now c.args.left.now) c.from_residual.ensures.1
     (widen_fails _ _ _ refl refl refl
     (left_fails (good_made (named begins_params commas no_sign good_params refl refl refl) Some) (good_nothing None)
     refl refl (sym (ap (λ s. begins_params s) c.peek.ensures) ∙ sym c.begins_params.ensures

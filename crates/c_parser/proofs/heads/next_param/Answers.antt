@@ -1,37 +1,23 @@
 use Rattle.std.proofs.Common.{refl}
-use Rattle.c_grammar.specs.Syntax as s
 use Rattle.c_grammar.specs.declared.signs.Sign.TheVariants as sign
 use Rattle.c_reader.specs.Bounds.{Stops}
 use Rattle.c_parser.specs.inner.Shapes.{read_next_param}
 use Rattle.c_grammar.proofs.ItemLeasts.{least_param}
-use Rattle.c_grammar.proofs.Goods.{good_one}
 use Rattle.c_grammar.proofs.Items.{good_param}
-use Rattle.c_grammar.proofs.Parts.{takes_made, fails_made, takes_token}
-use Rattle.c_grammar.proofs.Steps.{passed, pair, in_front, in_back, widen_takes, widen_fails}
-use Rattle.c_grammar.proofs.Tokens.{fails_one, real}
+use Rattle.c_grammar.proofs.Series.{word_fails, behind_fails, takes_behind}
+use Rattle.c_grammar.proofs.Steps.{passed}
 use Rattle.c_parser.proofs.heads.next_param.Goals as goal
 
 pub returns-in_err-rest-clause-err : goal.returns-in_err-rest-clause-err
 returns-in_err-rest-clause-err c =
-    passed c.from_residual.result (Stops read_next_param c.args.bounds.now c.args.left.now) c.in_err-rest.field-0.0
-    c.from_residual.ensures.1
-    (widen_fails _ _ _ refl refl refl
-    (fails_made s.second _
-    (in_front (good_one sign.Comma) good_param refl refl (least_param _)
-    (fails_one sign.Comma (real sign.Comma tt) _ _ _ _ c.in_err-rest.ensures.err.0 c.in_err-rest.ensures.err.1))))
+    passed c.from_residual.result (Stops read_next_param c.args.bounds.now c.args.left.now) c.from_residual.ensures.1
+    (word_fails sign.Comma refl good_param (least_param _) c.in_err-rest.ensures.err)
 
 pub returns-in_err-param-clause-err : goal.returns-in_err-param-clause-err
 returns-in_err-param-clause-err c =
     passed c.from_residual-in_err-param.result (Stops read_next_param c.args.bounds.now c.args.left.now)
-    c.in_err-param.field-0.0 c.from_residual-in_err-param.ensures.1
-    (widen_fails _ _ _ refl refl refl
-    (fails_made s.second _
-    (in_back (good_one sign.Comma) good_param refl refl refl
-    (takes_token sign.Comma _ _ _ _ c.in_ok-rest.ensures.ok.0 c.in_ok-rest.ensures.ok.1)
-    c.in_err-param.ensures.err)))
+    c.from_residual-in_err-param.ensures.1
+    (behind_fails sign.Comma refl good_param c.in_ok-rest.ensures.ok c.in_err-param.ensures.err)
 
 pub returns-clause-ok : goal.returns-clause-ok
-returns-clause-ok c = widen_takes _ _ refl refl
-    (takes_made s.second
-    (pair (good_one sign.Comma) good_param refl
-    (takes_token sign.Comma _ _ _ _ c.in_ok-rest.ensures.ok.0 c.in_ok-rest.ensures.ok.1) c.in_ok-param.ensures.ok))
+returns-clause-ok c = takes_behind sign.Comma refl good_param c.in_ok-rest.ensures.ok c.in_ok-param.ensures.ok

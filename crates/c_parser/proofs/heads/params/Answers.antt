@@ -31,8 +31,7 @@ module _ {n : ℕ} {ts : List Token} where
 
 pub returns-in_err-token-clause-err : goal.returns-in_err-token-clause-err
 returns-in_err-token-clause-err c =
-    passed c.from_residual.result (Stops read_params c.args.bounds.now c.args.left.now) c.in_err-token.field-0.0
-    c.from_residual.ensures.1
+    passed c.from_residual.result (Stops read_params c.args.bounds.now c.args.left.now) c.from_residual.ensures.1
     (carry_fails (at_void (sym c.is_next.ensures ∙ c.if-is_next.true))
     (fails_made params'.Void _ (fails_at sign.Void (real sign.Void tt) c.in_err-token.ensures.err)))
 
@@ -43,7 +42,7 @@ returns-then-is_next-clause-ok c = carry (at_void (sym c.is_next.ensures ∙ c.i
 pub returns-in_err-all-clause-err : goal.returns-in_err-all-clause-err
 returns-in_err-all-clause-err c =
     passed c.from_residual-in_err-all.result (Stops read_params c.args.bounds.now c.args.left.now)
-    c.in_err-all.field-0.0 c.from_residual-in_err-all.ensures.1
+    c.from_residual-in_err-all.ensures.1
     (carry_fails (at_list (sym c.is_next.ensures ∙ c.if-is_next.false))
     (fails_made params'.List _ c.in_err-all.ensures.err))
 

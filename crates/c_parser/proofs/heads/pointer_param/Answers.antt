@@ -15,8 +15,7 @@ use Rattle.c_parser.proofs.heads.pointer_param.Goals as goal
 
 pub returns-in_err-head-clause-err : goal.returns-in_err-head-clause-err
 returns-in_err-head-clause-err c =
-    passed c.from_residual.result (Stops read_pointer_param c.args.bounds.now c.args.left.now) c.in_err-head.field-0.0
-    c.from_residual.ensures.1
+    passed c.from_residual.result (Stops read_pointer_param c.args.bounds.now c.args.left.now) c.from_residual.ensures.1
     (fails_same (same_apart i.pointer_param_of) _
     (widen_fails _ _ _ refl refl refl
     (fails_made (apart i.pointer_param_of) _
@@ -27,7 +26,7 @@ returns-in_err-head-clause-err c =
 pub returns-in_err-rest-clause-err : goal.returns-in_err-rest-clause-err
 returns-in_err-rest-clause-err c =
     passed c.from_residual-in_err-rest.result (Stops read_pointer_param c.args.bounds.now c.args.left.now)
-    c.in_err-rest.field-0.0 c.from_residual-in_err-rest.ensures.1
+    c.from_residual-in_err-rest.ensures.1
     (fails_same (same_apart i.pointer_param_of) _
     (widen_fails _ _ _ refl refl refl
     (fails_made (apart i.pointer_param_of) _
@@ -39,7 +38,7 @@ returns-in_err-rest-clause-err c =
 pub returns-in_err-name-clause-err : goal.returns-in_err-name-clause-err
 returns-in_err-name-clause-err c =
     passed c.from_residual-in_err-name.result (Stops read_pointer_param c.args.bounds.now c.args.left.now)
-    c.in_err-name.field-0.0 c.from_residual-in_err-name.ensures.1
+    c.from_residual-in_err-name.ensures.1
     (fails_same (same_apart i.pointer_param_of) _
     (widen_fails _ _ _ refl refl refl
     (fails_made (apart i.pointer_param_of) _

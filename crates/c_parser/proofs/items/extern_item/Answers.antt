@@ -21,20 +21,19 @@ ended = enclosed (good_at sign.Extern) (closed good_head (real sign.Semicolon tt
 
 pub returns-in_err-token-clause-err : goal.returns-in_err-token-clause-err
 returns-in_err-token-clause-err c =
-    passed c.from_residual.result (Stops read_extern_item c.args.bounds.now c.args.left.now) c.in_err-token.field-0.0
-    c.from_residual.ensures.1
+    passed c.from_residual.result (Stops read_extern_item c.args.bounds.now c.args.left.now) c.from_residual.ensures.1
     (outer_fails ended extern_of (fails_at sign.Extern (real sign.Extern tt) c.in_err-token.ensures.err))
 
 pub returns-in_err-head-clause-err : goal.returns-in_err-head-clause-err
 returns-in_err-head-clause-err c =
     passed c.from_residual-in_err-head.result (Stops read_extern_item c.args.bounds.now c.args.left.now)
-    c.in_err-head.field-0.0 c.from_residual-in_err-head.ensures.1
+    c.from_residual-in_err-head.ensures.1
     (inner_fails ended extern_of refl (reads_at sign.Extern c.in_ok-token.ensures.ok) c.in_err-head.ensures.err)
 
 pub returns-in_err-after-clause-err : goal.returns-in_err-after-clause-err
 returns-in_err-after-clause-err c =
     passed c.from_residual-in_err-after.result (Stops read_extern_item c.args.bounds.now c.args.left.now)
-    c.in_err-after.field-0.0 c.from_residual-in_err-after.ensures.1
+    c.from_residual-in_err-after.ensures.1
     (end_fails ended extern_of (reads_at sign.Extern c.in_ok-token.ensures.ok) c.in_ok-head.ensures.ok
     c.in_err-after.ensures.err)
 

@@ -18,7 +18,7 @@ use Rattle.c_parser.proofs.items.star_rest.Goals as goal
 pub returns-in_err-rest-clause-err : goal.returns-in_err-rest-clause-err
 returns-in_err-rest-clause-err c =
     passed c.from_residual.result (Stops (read_star_rest c.args.at c.args.shape) c.args.bounds.now c.args.left.now)
-    c.in_err-rest.field-0.0 c.from_residual.ensures.1
+    c.from_residual.ensures.1
     (widen_fails _ _ _ refl refl refl
     (fails_made (λ (q : Token × (Name × Rest)). struct_item_of (c.args.at, (c.args.shape, inr q))) _
     (in_front (good_one sign.Star) (good_pair good_name good_pointer_rest refl) refl refl
@@ -27,9 +27,8 @@ returns-in_err-rest-clause-err c =
 
 pub returns-in_err-name-clause-err : goal.returns-in_err-name-clause-err
 returns-in_err-name-clause-err c =
-    passed c.from_residual-in_err-name.result
-    (Stops (read_star_rest c.args.at c.args.shape) c.args.bounds.now c.args.left.now) c.in_err-name.field-0.0
-    c.from_residual-in_err-name.ensures.1
+    passed c.from_residual-in_err-name.result (Stops (read_star_rest c.args.at c.args.shape) c.args.bounds.now
+    c.args.left.now) c.from_residual-in_err-name.ensures.1
     (widen_fails _ _ _ refl refl refl
     (fails_made (λ (q : Token × (Name × Rest)). struct_item_of (c.args.at, (c.args.shape, inr q))) _
     (in_back (good_one sign.Star) (good_pair good_name good_pointer_rest refl) refl refl refl
@@ -38,9 +37,8 @@ returns-in_err-name-clause-err c =
 
 pub returns-in_err-item-clause-err : goal.returns-in_err-item-clause-err
 returns-in_err-item-clause-err c =
-    passed c.from_residual-in_err-item.result
-    (Stops (read_star_rest c.args.at c.args.shape) c.args.bounds.now c.args.left.now) c.in_err-item.field-0.0
-    c.from_residual-in_err-item.ensures.1
+    passed c.from_residual-in_err-item.result (Stops (read_star_rest c.args.at c.args.shape) c.args.bounds.now
+    c.args.left.now) c.from_residual-in_err-item.ensures.1
     (widen_fails _ _ _ refl refl refl
     (fails_made (λ (q : Token × (Name × Rest)). struct_item_of (c.args.at, (c.args.shape, inr q))) _
     (in_back (good_one sign.Star) (good_pair good_name good_pointer_rest refl) refl refl refl

@@ -16,7 +16,7 @@ use Rattle.c_parser.proofs.items.struct_end.Goals as goal
 pub returns-in_err-fields-clause-err : goal.returns-in_err-fields-clause-err
 returns-in_err-fields-clause-err c =
     passed c.from_residual.result (Stops (read_struct_end c.args.at c.args.shape) c.args.bounds.now c.args.left.now)
-    c.in_err-fields.field-0.0 c.from_residual.ensures.1
+    c.from_residual.ensures.1
     (widen_fails _ _ _ refl refl refl
     (fails_made (λ (q : Option (List Field) × Token). i.struct_of (c.args.at, (c.args.shape, q))) _
     (in_front good_maybe_braced (good_one sign.Semicolon) refl refl
@@ -24,9 +24,8 @@ returns-in_err-fields-clause-err c =
 
 pub returns-in_err-rest-clause-err : goal.returns-in_err-rest-clause-err
 returns-in_err-rest-clause-err c =
-    passed c.from_residual-in_err-rest.result
-    (Stops (read_struct_end c.args.at c.args.shape) c.args.bounds.now c.args.left.now) c.in_err-rest.field-0.0
-    c.from_residual-in_err-rest.ensures.1
+    passed c.from_residual-in_err-rest.result (Stops (read_struct_end c.args.at c.args.shape) c.args.bounds.now
+    c.args.left.now) c.from_residual-in_err-rest.ensures.1
     (widen_fails _ _ _ refl refl refl
     (fails_made (λ (q : Option (List Field) × Token). i.struct_of (c.args.at, (c.args.shape, q))) _
     (in_back good_maybe_braced (good_one sign.Semicolon) refl refl refl c.in_ok-fields.ensures.ok

@@ -7,8 +7,7 @@ use Rattle.c_parser.proofs.whole.tree.Goals as goal
 
 pub returns-in_err-items-clause-err : goal.returns-in_err-items-clause-err
 returns-in_err-items-clause-err c =
-    passed c.from_residual.result (IsFault c.args.tokens.now c.args.end) c.in_err-items.field-0.0
-    c.from_residual.ensures.1
+    passed c.from_residual.result (IsFault c.args.tokens.now c.args.end) c.from_residual.ensures.1
     (fault_of _ _ _ c.requires c.in_err-items.ensures.err)
 
 pub returns-clause-ok : goal.returns-clause-ok

@@ -12,8 +12,7 @@ use Rattle.c_parser.proofs.whole.whole.Goals as goal
 
 pub returns-in_err-items-clause-err : goal.returns-in_err-items-clause-err
 returns-in_err-items-clause-err c =
-    passed c.from_residual.result (IsStop c.args.tokens.now c.args.bounds.now.end) c.in_err-items.field-0.0
-    c.from_residual.ensures.1
+    passed c.from_residual.result (IsStop c.args.tokens.now c.args.bounds.now.end) c.from_residual.ensures.1
     (stop_of _ _ _
     (subst
     (λ m. Fails unit begins_item elses no_sign m c.args.bounds.now.end c.args.tokens.now c.in_err-items.field-0.0)

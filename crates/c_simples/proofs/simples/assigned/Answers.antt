@@ -18,7 +18,7 @@ use Rattle.c_simples.proofs.simples.assigned.Goals as goal
 pub returns-in_err-arrows-clause-err : goal.returns-in_err-arrows-clause-err
 returns-in_err-arrows-clause-err c =
     passed c.from_residual.result (Stops (read_assigned c.args.name) c.args.bounds.now c.args.left.now)
-    c.in_err-arrows.field-0.0 c.from_residual.ensures.1
+    c.from_residual.ensures.1
     (widen_fails _ _ _ refl refl refl
     (fails_made (λ (q : List Arrow × (Token × Rhs)). simple_word (c.args.name, inr q)) _
     (in_front good_arrows (good_pair (good_one sign.Assign) good_rhs refl) refl refl
@@ -28,7 +28,7 @@ returns-in_err-arrows-clause-err c =
 pub returns-in_err-rest-clause-err : goal.returns-in_err-rest-clause-err
 returns-in_err-rest-clause-err c =
     passed c.from_residual-in_err-rest.result (Stops (read_assigned c.args.name) c.args.bounds.now c.args.left.now)
-    c.in_err-rest.field-0.0 c.from_residual-in_err-rest.ensures.1
+    c.from_residual-in_err-rest.ensures.1
     (widen_fails _ _ _ refl refl refl
     (fails_made (λ (q : List Arrow × (Token × Rhs)). simple_word (c.args.name, inr q)) _
     (in_back good_arrows (good_pair (good_one sign.Assign) good_rhs refl) refl refl refl c.in_ok-arrows.ensures.ok
@@ -39,7 +39,7 @@ returns-in_err-rest-clause-err c =
 pub returns-in_err-from-clause-err : goal.returns-in_err-from-clause-err
 returns-in_err-from-clause-err c =
     passed c.from_residual-in_err-from.result (Stops (read_assigned c.args.name) c.args.bounds.now c.args.left.now)
-    c.in_err-from.field-0.0 c.from_residual-in_err-from.ensures.1
+    c.from_residual-in_err-from.ensures.1
     (widen_fails _ _ _ refl refl refl
     (fails_made (λ (q : List Arrow × (Token × Rhs)). simple_word (c.args.name, inr q)) _
     (in_back good_arrows (good_pair (good_one sign.Assign) good_rhs refl) refl refl refl c.in_ok-arrows.ensures.ok

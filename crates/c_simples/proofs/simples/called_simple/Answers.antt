@@ -10,7 +10,7 @@ use Rattle.c_simples.proofs.simples.called_simple.Goals as goal
 pub returns-in_err-operands-clause-err : goal.returns-in_err-operands-clause-err
 returns-in_err-operands-clause-err c =
     passed c.from_residual.result (Stops (read_called_simple c.args.name) c.args.bounds.now c.args.left.now)
-    c.in_err-operands.field-0.0 c.from_residual.ensures.1
+    c.from_residual.ensures.1
     (widen_fails _ _ _ refl refl refl
     (fails_made (λ (os : List Operand). simple_word (c.args.name, inl os)) _ c.in_err-operands.ensures.err))
 

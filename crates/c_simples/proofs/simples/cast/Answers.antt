@@ -62,8 +62,7 @@ behind_name t f = in_back good_name (good_closed star) refl refl refl t f
 
 pub returns-in_err-token-clause-err : goal.returns-in_err-token-clause-err
 returns-in_err-token-clause-err c =
-    passed c.from_residual.result (Stops read_cast c.args.bounds.now c.args.left.now) c.in_err-token.field-0.0
-    c.from_residual.ensures.1
+    passed c.from_residual.result (Stops read_cast c.args.bounds.now c.args.left.now) c.from_residual.ensures.1
     (widen_fails _ _ _ refl refl refl
     (fails_made s.cast_of _
     (in_front (good_at sign.Open) good_after_open refl refl
@@ -73,7 +72,7 @@ returns-in_err-token-clause-err c =
 pub returns-in_err-rest-clause-err : goal.returns-in_err-rest-clause-err
 returns-in_err-rest-clause-err c =
     passed c.from_residual-in_err-rest.result (Stops read_cast c.args.bounds.now c.args.left.now)
-    c.in_err-rest.field-0.0 c.from_residual-in_err-rest.ensures.1
+    c.from_residual-in_err-rest.ensures.1
     (behind_open (reads_at sign.Open c.in_ok-token.ensures.ok)
     (in_front (good_one sign.Struct) good_after_struct refl refl (least_after_struct _)
     (fails_token sign.Struct (real sign.Struct tt) c.in_err-rest.ensures.err)))
@@ -81,7 +80,7 @@ returns-in_err-rest-clause-err c =
 pub returns-in_err-name-clause-err : goal.returns-in_err-name-clause-err
 returns-in_err-name-clause-err c =
     passed c.from_residual-in_err-name.result (Stops read_cast c.args.bounds.now c.args.left.now)
-    c.in_err-name.field-0.0 c.from_residual-in_err-name.ensures.1
+    c.from_residual-in_err-name.ensures.1
     (behind_open (reads_at sign.Open c.in_ok-token.ensures.ok)
     (behind_struct (reads_token sign.Struct c.in_ok-rest.ensures.ok)
     (in_front good_name (good_closed star) refl refl
@@ -90,7 +89,7 @@ returns-in_err-name-clause-err c =
 pub returns-in_err-rest-2-clause-err : goal.returns-in_err-rest-2-clause-err
 returns-in_err-rest-2-clause-err c =
     passed c.from_residual-in_err-rest-2.result (Stops read_cast c.args.bounds.now c.args.left.now)
-    c.in_err-rest-2.field-0.0 c.from_residual-in_err-rest-2.ensures.1
+    c.from_residual-in_err-rest-2.ensures.1
     (behind_open (reads_at sign.Open c.in_ok-token.ensures.ok)
     (behind_struct (reads_token sign.Struct c.in_ok-rest.ensures.ok)
     (behind_name (takes_name _ _ _ _ c.in_ok-name.ensures.ok)
@@ -99,7 +98,7 @@ returns-in_err-rest-2-clause-err c =
 pub returns-in_err-rest-3-clause-err : goal.returns-in_err-rest-3-clause-err
 returns-in_err-rest-3-clause-err c =
     passed c.from_residual-in_err-rest-3.result (Stops read_cast c.args.bounds.now c.args.left.now)
-    c.in_err-rest-3.field-0.0 c.from_residual-in_err-rest-3.ensures.1
+    c.from_residual-in_err-rest-3.ensures.1
     (behind_open (reads_at sign.Open c.in_ok-token.ensures.ok)
     (behind_struct (reads_token sign.Struct c.in_ok-rest.ensures.ok)
     (behind_name (takes_name _ _ _ _ c.in_ok-name.ensures.ok)

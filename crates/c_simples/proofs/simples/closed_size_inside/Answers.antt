@@ -24,24 +24,22 @@ brackets = enclosed (good_one sign.Open) (closed good_inside (real sign.Close tt
 pub returns-in_err-rest-clause-err : goal.returns-in_err-rest-clause-err
 returns-in_err-rest-clause-err c =
     passed c.from_residual.result (Stops (read_closed_size_inside c.args.at) c.args.bounds.now c.args.left.now)
-    c.in_err-rest.field-0.0 c.from_residual.ensures.1
+    c.from_residual.ensures.1
     (fails_made (λ (i : Inside). size_of (c.args.at, inl i)) _
     (outer_fails brackets s.middle (fails_token sign.Open (real sign.Open tt) c.in_err-rest.ensures.err)))
 
 pub returns-in_err-size-clause-err : goal.returns-in_err-size-clause-err
 returns-in_err-size-clause-err c =
-    passed c.from_residual-in_err-size.result
-    (Stops (read_closed_size_inside c.args.at) c.args.bounds.now c.args.left.now) c.in_err-size.field-0.0
-    c.from_residual-in_err-size.ensures.1
+    passed c.from_residual-in_err-size.result (Stops (read_closed_size_inside c.args.at) c.args.bounds.now
+    c.args.left.now) c.from_residual-in_err-size.ensures.1
     (fails_made (λ (i : Inside). size_of (c.args.at, inl i)) _
     (inner_fails brackets s.middle refl (reads_token sign.Open c.in_ok-rest.ensures.ok)
     (fails_unmade good_inside (λ (i : Inside). size_of (c.args.at, inl i)) refl _ c.in_err-size.ensures.err)))
 
 pub returns-in_err-rest-2-clause-err : goal.returns-in_err-rest-2-clause-err
 returns-in_err-rest-2-clause-err c =
-    passed c.from_residual-in_err-rest-2.result
-    (Stops (read_closed_size_inside c.args.at) c.args.bounds.now c.args.left.now) c.in_err-rest-2.field-0.0
-    c.from_residual-in_err-rest-2.ensures.1
+    passed c.from_residual-in_err-rest-2.result (Stops (read_closed_size_inside c.args.at) c.args.bounds.now
+    c.args.left.now) c.from_residual-in_err-rest-2.ensures.1
     (fails_made (λ (i : Inside). size_of (c.args.at, inl i)) _
     (end_fails brackets s.middle (reads_token sign.Open c.in_ok-rest.ensures.ok)
     (takes_unmade good_inside (λ (i : Inside). size_of (c.args.at, inl i)) c.in_ok-size.ensures.ok).2

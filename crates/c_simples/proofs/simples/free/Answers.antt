@@ -4,34 +4,29 @@ use Rattle.c_grammar.specs.Syntax.{at_of}
 use Rattle.c_grammar.specs.declared.signs.Sign.TheVariants as sign
 use Rattle.c_reader.specs.Bounds.{Stops}
 use Rattle.c_simples.specs.Shapes.{read_free}
-use Rattle.c_grammar.proofs.Goods.{good_one, good_at, good_path}
+use Rattle.c_grammar.proofs.Goods.{good_at, good_path}
 use Rattle.c_grammar.proofs.Leasts.{least_path}
-use Rattle.c_grammar.proofs.Parts.{takes_made, fails_made, alive_made}
-use Rattle.c_grammar.proofs.Sequences.{least_one, least_pair}
+use Rattle.c_grammar.proofs.Parts.{takes_made, fails_made}
+use Rattle.c_grammar.proofs.Sequences.{least_bracketed}
 use Rattle.c_grammar.proofs.Statements.{good_closed_path}
-use Rattle.c_grammar.proofs.Steps.{passed, pair, in_front, in_back, widen_takes, widen_fails, good_pair}
+use Rattle.c_grammar.proofs.Steps.{passed, pair, in_front, in_back, widen_takes, widen_fails}
 use Rattle.c_grammar.proofs.Tokens.{fails_one, takes_at, real}
 use Rattle.c_simples.proofs.simples.free.Goals as goal
 
 pub returns-in_err-token-clause-err : goal.returns-in_err-token-clause-err
 returns-in_err-token-clause-err c =
-    passed c.from_residual.result (Stops read_free c.args.bounds.now c.args.left.now) c.in_err-token.field-0.0
-    c.from_residual.ensures.1
+    passed c.from_residual.result (Stops read_free c.args.bounds.now c.args.left.now) c.from_residual.ensures.1
     (widen_fails _ _ _ refl refl refl
     (fails_made s.free_of _
     (in_front (good_at sign.Free) good_closed_path refl refl
-    (alive_made s.middle
-    (least_pair (good_one sign.Open) (good_pair good_path (good_one sign.Close) refl) refl refl _
-    (least_one sign.Open (real sign.Open tt) _)
-    (least_pair good_path (good_one sign.Close) refl refl _ (least_path _)
-    (least_one sign.Close (real sign.Close tt) _))))
+    (least_bracketed good_path refl _ (least_path _))
     (fails_made at_of _
     (fails_one sign.Free (real sign.Free tt) _ _ _ _ c.in_err-token.ensures.err.0 c.in_err-token.ensures.err.1)))))
 
 pub returns-in_err-path-clause-err : goal.returns-in_err-path-clause-err
 returns-in_err-path-clause-err c =
     passed c.from_residual-in_err-path.result (Stops read_free c.args.bounds.now c.args.left.now)
-    c.in_err-path.field-0.0 c.from_residual-in_err-path.ensures.1
+    c.from_residual-in_err-path.ensures.1
     (widen_fails _ _ _ refl refl refl
     (fails_made s.free_of _
     (in_back (good_at sign.Free) good_closed_path refl refl refl

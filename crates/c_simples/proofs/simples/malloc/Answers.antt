@@ -4,10 +4,10 @@ use Rattle.c_grammar.specs.Syntax.{at_of}
 use Rattle.c_grammar.specs.declared.signs.Sign.TheVariants as sign
 use Rattle.c_reader.specs.Bounds.{Stops}
 use Rattle.c_simples.specs.Shapes.{read_malloc}
-use Rattle.c_grammar.proofs.Goods.{good_one, good_at}
+use Rattle.c_grammar.proofs.Goods.{good_at}
 use Rattle.c_grammar.proofs.Leasts.{least_size}
-use Rattle.c_grammar.proofs.Parts.{takes_made, fails_made, alive_made}
-use Rattle.c_grammar.proofs.Sequences.{least_one, least_at, least_pair}
+use Rattle.c_grammar.proofs.Parts.{takes_made, fails_made}
+use Rattle.c_grammar.proofs.Sequences.{least_at, least_pair, least_bracketed}
 use Rattle.c_grammar.proofs.Statements.{good_closed_size, good_maybe_cast, good_size}
 use Rattle.c_grammar.proofs.Steps.{passed, pair, in_front, in_back, widen_takes, widen_fails, good_pair}
 use Rattle.c_grammar.proofs.Tokens.{fails_one, takes_at, real}
@@ -15,32 +15,23 @@ use Rattle.c_simples.proofs.simples.malloc.Goals as goal
 
 pub returns-in_err-cast-clause-err : goal.returns-in_err-cast-clause-err
 returns-in_err-cast-clause-err c =
-    passed c.from_residual.result (Stops read_malloc c.args.bounds.now c.args.left.now) c.in_err-cast.field-0.0
-    c.from_residual.ensures.1
+    passed c.from_residual.result (Stops read_malloc c.args.bounds.now c.args.left.now) c.from_residual.ensures.1
     (widen_fails _ _ _ refl refl refl
     (fails_made s.malloc_of _
     (in_front good_maybe_cast (good_pair (good_at sign.Malloc) good_closed_size refl) refl refl
     (least_pair (good_at sign.Malloc) good_closed_size refl refl _ (least_at sign.Malloc (real sign.Malloc tt) _)
-    (alive_made s.middle
-    (least_pair (good_one sign.Open) (good_pair good_size (good_one sign.Close) refl) refl refl _
-    (least_one sign.Open (real sign.Open tt) _)
-    (least_pair good_size (good_one sign.Close) refl refl _ (least_size _)
-    (least_one sign.Close (real sign.Close tt) _))))) c.in_err-cast.ensures.err)))
+    (least_bracketed good_size refl _ (least_size _))) c.in_err-cast.ensures.err)))
 
 pub returns-in_err-token-clause-err : goal.returns-in_err-token-clause-err
 returns-in_err-token-clause-err c =
     passed c.from_residual-in_err-token.result (Stops read_malloc c.args.bounds.now c.args.left.now)
-    c.in_err-token.field-0.0 c.from_residual-in_err-token.ensures.1
+    c.from_residual-in_err-token.ensures.1
     (widen_fails _ _ _ refl refl refl
     (fails_made s.malloc_of _
     (in_back good_maybe_cast (good_pair (good_at sign.Malloc) good_closed_size refl) refl refl refl
     c.in_ok-cast.ensures.ok
     (in_front (good_at sign.Malloc) good_closed_size refl refl
-    (alive_made s.middle
-    (least_pair (good_one sign.Open) (good_pair good_size (good_one sign.Close) refl) refl refl _
-    (least_one sign.Open (real sign.Open tt) _)
-    (least_pair good_size (good_one sign.Close) refl refl _ (least_size _)
-    (least_one sign.Close (real sign.Close tt) _))))
+    (least_bracketed good_size refl _ (least_size _))
     (fails_made at_of _
     (fails_one sign.Malloc (real sign.Malloc tt) _ _ _ _ c.in_err-token.ensures.err.0
     c.in_err-token.ensures.err.1))))))
@@ -48,7 +39,7 @@ returns-in_err-token-clause-err c =
 pub returns-in_err-size-clause-err : goal.returns-in_err-size-clause-err
 returns-in_err-size-clause-err c =
     passed c.from_residual-in_err-size.result (Stops read_malloc c.args.bounds.now c.args.left.now)
-    c.in_err-size.field-0.0 c.from_residual-in_err-size.ensures.1
+    c.from_residual-in_err-size.ensures.1
     (widen_fails _ _ _ refl refl refl
     (fails_made s.malloc_of _
     (in_back good_maybe_cast (good_pair (good_at sign.Malloc) good_closed_size refl) refl refl refl

@@ -12,8 +12,7 @@ use Rattle.c_simples.proofs.simples.maybe_cast.Goals as goal
 
 pub returns-in_err-cast-clause-err : goal.returns-in_err-cast-clause-err
 returns-in_err-cast-clause-err c =
-    passed c.from_residual.result (Stops read_maybe_cast c.args.bounds.now c.args.left.now) c.in_err-cast.field-0.0
-    c.from_residual.ensures.1
+    passed c.from_residual.result (Stops read_maybe_cast c.args.bounds.now c.args.left.now) c.from_residual.ensures.1
     (widen_fails _ _ _ refl refl refl
     (left_fails (good_made (named (among (sign.Open ∷ [])) no_sign no_sign good_cast refl refl refl) Some)
     (good_nothing None) refl refl (sym c.is_next.ensures ∙ c.if-is_next.true)

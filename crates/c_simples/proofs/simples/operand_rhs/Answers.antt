@@ -8,8 +8,7 @@ use Rattle.c_simples.proofs.simples.operand_rhs.Goals as goal
 
 pub returns-in_err-operand-clause-err : goal.returns-in_err-operand-clause-err
 returns-in_err-operand-clause-err c =
-    passed c.from_residual.result (Stops read_operand_rhs c.args.bounds.now c.args.left.now) c.in_err-operand.field-0.0
-    c.from_residual.ensures.1
+    passed c.from_residual.result (Stops read_operand_rhs c.args.bounds.now c.args.left.now) c.from_residual.ensures.1
     (widen_fails _ _ _ refl refl refl (fails_made rhs'.Operand _ c.in_err-operand.ensures.err))
 
 pub returns-clause-ok : goal.returns-clause-ok

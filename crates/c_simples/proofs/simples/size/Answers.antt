@@ -15,8 +15,7 @@ use Rattle.c_simples.proofs.simples.size.Goals as goal
 
 pub returns-in_err-token-clause-err : goal.returns-in_err-token-clause-err
 returns-in_err-token-clause-err c =
-    passed c.from_residual.result (Stops read_size c.args.bounds.now c.args.left.now) c.in_err-token.field-0.0
-    c.from_residual.ensures.1
+    passed c.from_residual.result (Stops read_size c.args.bounds.now c.args.left.now) c.from_residual.ensures.1
     (fails_same same_size _
     (widen_fails _ _ _ refl refl refl
     (fails_made size_of _
@@ -28,7 +27,7 @@ returns-in_err-token-clause-err c =
 pub returns-in_err-size-clause-err : goal.returns-in_err-size-clause-err
 returns-in_err-size-clause-err c =
     passed c.from_residual-in_err-size.result (Stops read_size c.args.bounds.now c.args.left.now)
-    c.in_err-size.field-0.0 c.from_residual-in_err-size.ensures.1
+    c.from_residual-in_err-size.ensures.1
     (fails_same same_size _
     (widen_fails _ _ _ refl refl refl
     (fails_made size_of _

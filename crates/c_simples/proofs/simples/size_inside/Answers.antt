@@ -5,7 +5,6 @@ use Rattle.c_ast.specs.declared.operands.Path.{Path}
 use Rattle.c_ast.specs.declared.simples.Size.TheVariants as size'
 use Rattle.c_lexer.specs.declared.token.Token.{Token}
 use Rattle.c_grammar.specs.Signs.{sign_at}
-use Rattle.c_grammar.specs.Syntax as s
 use Rattle.c_grammar.specs.declared.signs.Sign.TheVariants as sign
 use Rattle.c_grammar.specs.words.Parted.{Inside, size_of, stars}
 use Rattle.c_grammar.specs.words.Sets.{Signs, among, no_sign, arrows}
@@ -15,11 +14,11 @@ use Rattle.c_grammar.proofs.Carrying.{Carries, over, widened, same_carries, left
 use Rattle.c_grammar.proofs.Carrying.{carry_fails, carried_ok, carried_err}
 use Rattle.c_grammar.proofs.Choices.{same_fork}
 use Rattle.c_grammar.proofs.Families.{made}
-use Rattle.c_grammar.proofs.Goods.{named, good_one, good_name}
+use Rattle.c_grammar.proofs.Goods.{good_name, good_next}
 use Rattle.c_grammar.proofs.Parts.{takes_made, fails_made, good_made}
 use Rattle.c_grammar.proofs.Rules.{Good}
 use Rattle.c_grammar.proofs.Statements.{good_star_path}
-use Rattle.c_grammar.proofs.Steps.{passed, good_pair}
+use Rattle.c_grammar.proofs.Steps.{passed}
 use Rattle.c_simples.proofs.simples.size_inside.Goals as goal
 
 abbrev structs : Signs
@@ -27,9 +26,7 @@ structs = among (sign.Struct ∷ [])
 
 module _ (at : Place) where
   good_struct : Good (read_struct_size at).rule structs no_sign no_sign false
-  good_struct = named structs no_sign no_sign
-      (good_made (good_made (good_pair (good_one sign.Struct) good_name refl) s.second)
-      (λ (x : Name). size'.Struct at x)) refl refl refl
+  good_struct = good_made (good_next sign.Struct good_name) (λ (x : Name). size'.Struct at x)
 
   good_starred : Good (made (λ (q : Place × Path). size'.Bracketed at q.0 q.1) read_starred.rule) stars arrows no_sign
       false
@@ -59,7 +56,7 @@ returns-then-is_next-clause-err c =
 pub returns-in_err-inside-clause-err : goal.returns-in_err-inside-clause-err
 returns-in_err-inside-clause-err c =
     passed c.from_residual.result (Stops (read_size_inside c.args.at) c.args.bounds.now c.args.left.now)
-    c.in_err-inside.field-0.0 c.from_residual.ensures.1
+    c.from_residual.ensures.1
     (carry_fails (at_star c.args.at (sym c.is_next.ensures ∙ c.if-is_next.false))
     (fails_made (λ (q : Place × Path). size'.Bracketed c.args.at q.0 q.1) _ c.in_err-inside.ensures.err))
 

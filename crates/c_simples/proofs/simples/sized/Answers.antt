@@ -49,7 +49,7 @@ returns-then-is_next-clause-err c =
 pub returns-in_err-bare-clause-err : goal.returns-in_err-bare-clause-err
 returns-in_err-bare-clause-err c =
     passed c.from_residual.result (Stops (read_sized c.args.at) c.args.bounds.now c.args.left.now)
-    c.in_err-bare.field-0.0 c.from_residual.ensures.1
+    c.from_residual.ensures.1
     (carry_fails (at_star c.args.at (sym c.is_next.ensures ∙ c.if-is_next.false))
     (fails_made (λ (q : Place × Path). size'.Bare c.args.at q.0 q.1) _ c.in_err-bare.ensures.err))
 

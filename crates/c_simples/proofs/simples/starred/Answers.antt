@@ -10,8 +10,7 @@ use Rattle.c_simples.proofs.simples.starred.Goals as goal
 
 pub returns-in_err-star-clause-err : goal.returns-in_err-star-clause-err
 returns-in_err-star-clause-err c =
-    passed c.from_residual.result (Stops read_starred c.args.bounds.now c.args.left.now) c.in_err-star.field-0.0
-    c.from_residual.ensures.1
+    passed c.from_residual.result (Stops read_starred c.args.bounds.now c.args.left.now) c.from_residual.ensures.1
     (widen_fails _ _ _ refl refl refl
     (in_front (good_at sign.Star) good_path refl refl (least_path _)
     (fails_at sign.Star (real sign.Star tt) c.in_err-star.ensures.err)))
@@ -19,7 +18,7 @@ returns-in_err-star-clause-err c =
 pub returns-in_err-path-clause-err : goal.returns-in_err-path-clause-err
 returns-in_err-path-clause-err c =
     passed c.from_residual-in_err-path.result (Stops read_starred c.args.bounds.now c.args.left.now)
-    c.in_err-path.field-0.0 c.from_residual-in_err-path.ensures.1
+    c.from_residual-in_err-path.ensures.1
     (widen_fails _ _ _ refl refl refl
     (in_back (good_at sign.Star) good_path refl refl refl (reads_at sign.Star c.in_ok-star.ensures.ok)
     c.in_err-path.ensures.err))

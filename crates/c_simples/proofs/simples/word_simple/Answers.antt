@@ -13,15 +13,14 @@ use Rattle.c_simples.proofs.simples.word_simple.Goals as goal
 
 pub returns-in_err-name-clause-err : goal.returns-in_err-name-clause-err
 returns-in_err-name-clause-err c =
-    passed c.from_residual.result (Stops read_word_simple c.args.bounds.now c.args.left.now) c.in_err-name.field-0.0
-    c.from_residual.ensures.1
+    passed c.from_residual.result (Stops read_word_simple c.args.bounds.now c.args.left.now) c.from_residual.ensures.1
     (widen_fails _ _ _ refl refl refl
     (fails_made simple_word _ (in_front good_name good_after refl refl (least_after _) c.in_err-name.ensures.err)))
 
 pub returns-in_err-simple-clause-err : goal.returns-in_err-simple-clause-err
 returns-in_err-simple-clause-err c =
     passed c.from_residual-in_err-simple.result (Stops read_word_simple c.args.bounds.now c.args.left.now)
-    c.in_err-simple.field-0.0 c.from_residual-in_err-simple.ensures.1
+    c.from_residual-in_err-simple.ensures.1
     (widen_fails _ _ _ refl refl refl
     (fails_made simple_word _
     (in_back good_name good_after refl refl refl (takes_name _ _ _ _ c.in_ok-name.ensures.ok)

@@ -12,8 +12,7 @@ use Rattle.c_statements.proofs.declarations.declarator.Goals as goal
 
 pub returns-in_err-name-clause-err : goal.returns-in_err-name-clause-err
 returns-in_err-name-clause-err c =
-    passed c.from_residual.result (Stops read_declarator c.args.bounds.now c.args.left.now) c.in_err-name.field-0.0
-    c.from_residual.ensures.1
+    passed c.from_residual.result (Stops read_declarator c.args.bounds.now c.args.left.now) c.from_residual.ensures.1
     (widen_fails _ _ _ refl refl refl
     (fails_made s.declarator_of _
     (in_front good_name good_maybe_from refl refl (least_absent _) c.in_err-name.ensures.err)))
@@ -21,7 +20,7 @@ returns-in_err-name-clause-err c =
 pub returns-in_err-from-clause-err : goal.returns-in_err-from-clause-err
 returns-in_err-from-clause-err c =
     passed c.from_residual-in_err-from.result (Stops read_declarator c.args.bounds.now c.args.left.now)
-    c.in_err-from.field-0.0 c.from_residual-in_err-from.ensures.1
+    c.from_residual-in_err-from.ensures.1
     (widen_fails _ _ _ refl refl refl
     (fails_made s.declarator_of _
     (in_back good_name good_maybe_from refl refl refl (takes_name _ _ _ _ c.in_ok-name.ensures.ok)

@@ -14,7 +14,7 @@ use Rattle.c_statements.proofs.declarations.declarators.Goals as goal
 pub returns-in_err-first-clause-err : goal.returns-in_err-first-clause-err
 returns-in_err-first-clause-err c =
     passed c.from_residual.result (Stops (read_declarators c.args.starred) c.args.bounds.now c.args.left.now)
-    c.in_err-first.field-0.0 c.from_residual.ensures.1
+    c.from_residual.ensures.1
     (widen_fails _ _ _ refl refl refl
     (fails_made s.joined _
     (in_front (good_init_declarator c.args.starred) (good_more_declarators c.args.starred) refl refl
@@ -22,15 +22,13 @@ returns-in_err-first-clause-err c =
 
 pub returns-in_err-all-clause-err : goal.returns-in_err-all-clause-err
 returns-in_err-all-clause-err c =
-    passed c.from_residual-in_err-all.result
-    (Stops (read_declarators c.args.starred) c.args.bounds.now c.args.left.now) _
+    passed c.from_residual-in_err-all.result (Stops (read_declarators c.args.starred) c.args.bounds.now c.args.left.now)
     c.from_residual-in_err-all.ensures.1 no_memory
 
 pub returns-in_err-more-clause-err : goal.returns-in_err-more-clause-err
 returns-in_err-more-clause-err c =
-    passed c.from_residual-in_err-more.result
-    (Stops (read_declarators c.args.starred) c.args.bounds.now c.args.left.now) c.in_err-more.field-0.0
-    c.from_residual-in_err-more.ensures.1
+    passed c.from_residual-in_err-more.result (Stops (read_declarators c.args.starred) c.args.bounds.now
+    c.args.left.now) c.from_residual-in_err-more.ensures.1
     (widen_fails _ _ _ refl refl refl
     (fails_made s.joined _
     (in_back (good_init_declarator c.args.starred) (good_more_declarators c.args.starred) refl refl refl
@@ -38,9 +36,8 @@ returns-in_err-more-clause-err c =
 
 pub returns-in_err-append-clause-err : goal.returns-in_err-append-clause-err
 returns-in_err-append-clause-err c =
-    passed c.from_residual-in_err-append.result
-    (Stops (read_declarators c.args.starred) c.args.bounds.now c.args.left.now) _
-    c.from_residual-in_err-append.ensures.1 no_memory
+    passed c.from_residual-in_err-append.result (Stops (read_declarators c.args.starred) c.args.bounds.now
+    c.args.left.now) c.from_residual-in_err-append.ensures.1 no_memory
 
 pub returns-clause-ok : goal.returns-clause-ok
 returns-clause-ok c = takes_as _

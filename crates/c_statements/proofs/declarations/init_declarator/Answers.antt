@@ -1,14 +1,11 @@
 use Rattle.std.proofs.Common.{refl, sym, subst}
 use Rattle.std.proofs.lemmas.Result.{IfOk-weaker, IfErr-weaker}
-use Rattle.c_grammar.specs.Syntax as s
 use Rattle.c_grammar.specs.declared.signs.Sign.TheVariants as sign
 use Rattle.c_reader.specs.Bounds.{Reads, Stops}
 use Rattle.c_statements.specs.Shapes.{read_declarator, read_init_declarator}
-use Rattle.c_grammar.proofs.Goods.{good_one}
-use Rattle.c_grammar.proofs.Parts.{takes_made, fails_made, takes_token}
 use Rattle.c_grammar.proofs.Statements.{good_declarator}
-use Rattle.c_grammar.proofs.Steps.{passed, pair, in_front, in_back, widen_takes, widen_fails}
-use Rattle.c_grammar.proofs.Tokens.{fails_one, real}
+use Rattle.c_grammar.proofs.Series.{word_fails, behind_fails, takes_behind}
+use Rattle.c_grammar.proofs.Steps.{passed}
 use Rattle.c_statements.proofs.Declarators.{least_declarator}
 use Rattle.c_statements.proofs.declarations.init_declarator.Goals as goal
 
@@ -31,34 +28,22 @@ returns-then-not-starred-clause-err c =
 pub returns-in_err-rest-clause-err : goal.returns-in_err-rest-clause-err
 returns-in_err-rest-clause-err c =
     passed c.from_residual.result (Stops (read_init_declarator c.args.starred) c.args.bounds.now c.args.left.now)
-    c.in_err-rest.field-0.0 c.from_residual.ensures.1
+    c.from_residual.ensures.1
     (subst (λ b. Stops (read_init_declarator b) c.args.bounds.now c.args.left.now c.in_err-rest.field-0.0)
     (sym c.if-not-starred.false)
-    (widen_fails _ _ _ refl refl refl
-    (fails_made s.second _
-    (in_front (good_one sign.Star) good_declarator refl refl (least_declarator _)
-    (fails_one sign.Star (real sign.Star tt) _ _ _ _ c.in_err-rest.ensures.err.0 c.in_err-rest.ensures.err.1)))))
+    (word_fails sign.Star refl good_declarator (least_declarator _) c.in_err-rest.ensures.err))
 
 pub returns-in_err-declarator-clause-err : goal.returns-in_err-declarator-clause-err
 returns-in_err-declarator-clause-err c =
-    passed c.from_residual-in_err-declarator.result
-    (Stops (read_init_declarator c.args.starred) c.args.bounds.now c.args.left.now) c.in_err-declarator.field-0.0
-    c.from_residual-in_err-declarator.ensures.1
+    passed c.from_residual-in_err-declarator.result (Stops (read_init_declarator c.args.starred) c.args.bounds.now
+    c.args.left.now) c.from_residual-in_err-declarator.ensures.1
     (subst (λ b. Stops (read_init_declarator b) c.args.bounds.now c.args.left.now c.in_err-declarator.field-0.0)
     (sym c.if-not-starred.false)
-    (widen_fails _ _ _ refl refl refl
-    (fails_made s.second _
-    (in_back (good_one sign.Star) good_declarator refl refl refl
-    (takes_token sign.Star _ _ _ _ c.in_ok-rest.ensures.ok.0 c.in_ok-rest.ensures.ok.1)
-    c.in_err-declarator.ensures.err))))
+    (behind_fails sign.Star refl good_declarator c.in_ok-rest.ensures.ok c.in_err-declarator.ensures.err))
 
 pub returns-clause-ok : goal.returns-clause-ok
 returns-clause-ok c =
     subst
     (λ b. Reads (read_init_declarator b) c.args.bounds.now c.args.left.now c.in_ok-declarator.rest.now
     c.in_ok-declarator.declarator) (sym c.if-not-starred.false)
-    (widen_takes _ _ refl refl
-    (takes_made s.second
-    (pair (good_one sign.Star) good_declarator refl
-    (takes_token sign.Star _ _ _ _ c.in_ok-rest.ensures.ok.0 c.in_ok-rest.ensures.ok.1)
-    c.in_ok-declarator.ensures.ok)))
+    (takes_behind sign.Star refl good_declarator c.in_ok-rest.ensures.ok c.in_ok-declarator.ensures.ok)

@@ -11,8 +11,7 @@ use Rattle.c_statements.proofs.declarations.int_data.Goals as goal
 
 pub returns-in_err-token-clause-err : goal.returns-in_err-token-clause-err
 returns-in_err-token-clause-err c =
-    passed c.from_residual.result (Stops read_int_data c.args.bounds.now c.args.left.now) c.in_err-token.field-0.0
-    c.from_residual.ensures.1
+    passed c.from_residual.result (Stops read_int_data c.args.bounds.now c.args.left.now) c.from_residual.ensures.1
     (widen_fails _ _ _ refl refl refl
     (fails_made data'.Int _
     (fails_made at_of _

@@ -13,8 +13,7 @@ use Rattle.c_statements.proofs.declarations.maybe_from.Goals as goal
 
 pub returns-in_err-rhs-clause-err : goal.returns-in_err-rhs-clause-err
 returns-in_err-rhs-clause-err c =
-    passed c.from_residual.result (Stops read_maybe_from c.args.bounds.now c.args.left.now) c.in_err-rhs.field-0.0
-    c.from_residual.ensures.1
+    passed c.from_residual.result (Stops read_maybe_from c.args.bounds.now c.args.left.now) c.from_residual.ensures.1
     (widen_fails _ _ _ refl refl refl
     (left_fails
     (good_made

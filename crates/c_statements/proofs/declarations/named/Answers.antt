@@ -13,7 +13,7 @@ use Rattle.c_statements.proofs.declarations.named.Goals as goal
 pub returns-in_err-token-clause-err : goal.returns-in_err-token-clause-err
 returns-in_err-token-clause-err c =
     passed c.from_residual.result (Stops (read_named c.args.word) c.args.bounds.now c.args.left.now)
-    c.in_err-token.field-0.0 c.from_residual.ensures.1
+    c.from_residual.ensures.1
     (widen_fails _ _ _ refl refl refl
     (in_front (good_at c.args.word) good_name refl refl (least_name _)
     (fails_made at_of _
@@ -22,7 +22,7 @@ returns-in_err-token-clause-err c =
 pub returns-in_err-name-clause-err : goal.returns-in_err-name-clause-err
 returns-in_err-name-clause-err c =
     passed c.from_residual-in_err-name.result (Stops (read_named c.args.word) c.args.bounds.now c.args.left.now)
-    c.in_err-name.field-0.0 c.from_residual-in_err-name.ensures.1
+    c.from_residual-in_err-name.ensures.1
     (widen_fails _ _ _ refl refl refl
     (in_back (good_at c.args.word) good_name refl refl (steady_behind c.args.word c.requires)
     (takes_at c.args.word _ _ _ _ c.in_ok-token.ensures.ok.0 c.in_ok-token.ensures.ok.1) c.in_err-name.ensures.err))

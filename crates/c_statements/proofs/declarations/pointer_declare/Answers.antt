@@ -22,21 +22,21 @@ ended = enclosed (good_named sign.Struct) (closed good_pointers (real sign.Semic
 
 pub returns-in_err-head-clause-err : goal.returns-in_err-head-clause-err
 returns-in_err-head-clause-err c =
-    passed c.from_residual.result (Stops read_pointer_declare c.args.bounds.now c.args.left.now) c.in_err-head.field-0.0
+    passed c.from_residual.result (Stops read_pointer_declare c.args.bounds.now c.args.left.now)
     c.from_residual.ensures.1
     (fails_same (same_apart s.pointers_of) _ (outer_fails ended (apart s.pointers_of) c.in_err-head.ensures.err))
 
 pub returns-in_err-vars-clause-err : goal.returns-in_err-vars-clause-err
 returns-in_err-vars-clause-err c =
     passed c.from_residual-in_err-vars.result (Stops read_pointer_declare c.args.bounds.now c.args.left.now)
-    c.in_err-vars.field-0.0 c.from_residual-in_err-vars.ensures.1
+    c.from_residual-in_err-vars.ensures.1
     (fails_same (same_apart s.pointers_of) _
     (inner_fails ended (apart s.pointers_of) refl c.in_ok-head.ensures.ok c.in_err-vars.ensures.err))
 
 pub returns-in_err-rest-clause-err : goal.returns-in_err-rest-clause-err
 returns-in_err-rest-clause-err c =
     passed c.from_residual-in_err-rest.result (Stops read_pointer_declare c.args.bounds.now c.args.left.now)
-    c.in_err-rest.field-0.0 c.from_residual-in_err-rest.ensures.1
+    c.from_residual-in_err-rest.ensures.1
     (fails_same (same_apart s.pointers_of) _
     (end_fails ended (apart s.pointers_of) c.in_ok-head.ensures.ok c.in_ok-vars.ensures.ok c.in_err-rest.ensures.err))
 

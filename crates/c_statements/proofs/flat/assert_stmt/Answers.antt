@@ -14,8 +14,7 @@ use Rattle.c_statements.proofs.flat.assert_stmt.Goals as goal
 
 pub returns-in_err-head-clause-err : goal.returns-in_err-head-clause-err
 returns-in_err-head-clause-err c =
-    passed c.from_residual.result (Stops read_assert_stmt c.args.bounds.now c.args.left.now) c.in_err-head.field-0.0
-    c.from_residual.ensures.1
+    passed c.from_residual.result (Stops read_assert_stmt c.args.bounds.now c.args.left.now) c.from_residual.ensures.1
     (fails_same (same_apart s.assert_of) _
     (widen_fails _ _ _ refl refl refl
     (fails_made (apart s.assert_of) _
@@ -25,7 +24,7 @@ returns-in_err-head-clause-err c =
 pub returns-in_err-rest-clause-err : goal.returns-in_err-rest-clause-err
 returns-in_err-rest-clause-err c =
     passed c.from_residual-in_err-rest.result (Stops read_assert_stmt c.args.bounds.now c.args.left.now)
-    c.in_err-rest.field-0.0 c.from_residual-in_err-rest.ensures.1
+    c.from_residual-in_err-rest.ensures.1
     (fails_same (same_apart s.assert_of) _
     (widen_fails _ _ _ refl refl refl
     (fails_made (apart s.assert_of) _

@@ -14,7 +14,7 @@ use Rattle.c_statements.proofs.flat.ended.Goals as goal
 pub returns-in_err-token-clause-err : goal.returns-in_err-token-clause-err
 returns-in_err-token-clause-err c =
     passed c.from_residual.result (Stops (read_ended c.args.word) c.args.bounds.now c.args.left.now)
-    c.in_err-token.field-0.0 c.from_residual.ensures.1
+    c.from_residual.ensures.1
     (widen_fails _ _ _ refl refl refl
     (fails_made s.first _
     (in_front (good_at c.args.word) (good_one sign.Semicolon) refl refl
@@ -24,7 +24,7 @@ returns-in_err-token-clause-err c =
 pub returns-in_err-rest-clause-err : goal.returns-in_err-rest-clause-err
 returns-in_err-rest-clause-err c =
     passed c.from_residual-in_err-rest.result (Stops (read_ended c.args.word) c.args.bounds.now c.args.left.now)
-    c.in_err-rest.field-0.0 c.from_residual-in_err-rest.ensures.1
+    c.from_residual-in_err-rest.ensures.1
     (widen_fails _ _ _ refl refl refl
     (fails_made s.first _
     (in_back (good_at c.args.word) (good_one sign.Semicolon) refl refl (steady_behind c.args.word c.requires)

@@ -10,8 +10,7 @@ use Rattle.c_statements.proofs.flat.maybe_operand.Goals as goal
 
 pub returns-in_err-operand-clause-err : goal.returns-in_err-operand-clause-err
 returns-in_err-operand-clause-err c =
-    passed c.from_residual.result (Stops read_maybe_operand c.args.bounds.now c.args.left.now)
-    c.in_err-operand.field-0.0 c.from_residual.ensures.1
+    passed c.from_residual.result (Stops read_maybe_operand c.args.bounds.now c.args.left.now) c.from_residual.ensures.1
     (widen_fails _ _ _ refl refl refl
     (left_fails (good_made (named begins_operand operand_goes_on no_sign good_operand refl refl refl) Some)
     (good_nothing None) refl refl

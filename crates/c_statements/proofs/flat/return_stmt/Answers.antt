@@ -15,8 +15,7 @@ use Rattle.c_statements.proofs.flat.return_stmt.Goals as goal
 
 pub returns-in_err-token-clause-err : goal.returns-in_err-token-clause-err
 returns-in_err-token-clause-err c =
-    passed c.from_residual.result (Stops read_return_stmt c.args.bounds.now c.args.left.now) c.in_err-token.field-0.0
-    c.from_residual.ensures.1
+    passed c.from_residual.result (Stops read_return_stmt c.args.bounds.now c.args.left.now) c.from_residual.ensures.1
     (widen_fails _ _ _ refl refl refl
     (fails_made s.return_of _
     (in_front (good_at sign.Return) (good_pair good_maybe_operand (good_one sign.Semicolon) refl) refl refl
@@ -29,7 +28,7 @@ returns-in_err-token-clause-err c =
 pub returns-in_err-operand-clause-err : goal.returns-in_err-operand-clause-err
 returns-in_err-operand-clause-err c =
     passed c.from_residual-in_err-operand.result (Stops read_return_stmt c.args.bounds.now c.args.left.now)
-    c.in_err-operand.field-0.0 c.from_residual-in_err-operand.ensures.1
+    c.from_residual-in_err-operand.ensures.1
     (widen_fails _ _ _ refl refl refl
     (fails_made s.return_of _
     (in_back (good_at sign.Return) (good_pair good_maybe_operand (good_one sign.Semicolon) refl) refl refl refl
@@ -40,7 +39,7 @@ returns-in_err-operand-clause-err c =
 pub returns-in_err-rest-clause-err : goal.returns-in_err-rest-clause-err
 returns-in_err-rest-clause-err c =
     passed c.from_residual-in_err-rest.result (Stops read_return_stmt c.args.bounds.now c.args.left.now)
-    c.in_err-rest.field-0.0 c.from_residual-in_err-rest.ensures.1
+    c.from_residual-in_err-rest.ensures.1
     (widen_fails _ _ _ refl refl refl
     (fails_made s.return_of _
     (in_back (good_at sign.Return) (good_pair good_maybe_operand (good_one sign.Semicolon) refl) refl refl refl

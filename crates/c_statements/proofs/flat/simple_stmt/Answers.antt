@@ -15,8 +15,7 @@ use Rattle.c_statements.proofs.flat.simple_stmt.Goals as goal
 
 pub returns-in_err-simple-clause-err : goal.returns-in_err-simple-clause-err
 returns-in_err-simple-clause-err c =
-    passed c.from_residual.result (Stops read_simple_stmt c.args.bounds.now c.args.left.now) c.in_err-simple.field-0.0
-    c.from_residual.ensures.1
+    passed c.from_residual.result (Stops read_simple_stmt c.args.bounds.now c.args.left.now) c.from_residual.ensures.1
     (widen_fails _ _ _ refl refl refl
     (fails_made s.simple_of _
     (in_front good_simple (good_one sign.Semicolon) refl refl (least_one sign.Semicolon (real sign.Semicolon tt) _)
@@ -25,7 +24,7 @@ returns-in_err-simple-clause-err c =
 pub returns-in_err-rest-clause-err : goal.returns-in_err-rest-clause-err
 returns-in_err-rest-clause-err c =
     passed c.from_residual-in_err-rest.result (Stops read_simple_stmt c.args.bounds.now c.args.left.now)
-    c.in_err-rest.field-0.0 c.from_residual-in_err-rest.ensures.1
+    c.from_residual-in_err-rest.ensures.1
     (widen_fails _ _ _ refl refl refl
     (fails_made s.simple_of _
     (in_back good_simple (good_one sign.Semicolon) refl refl refl c.in_ok-simple.ensures.ok
@@ -34,7 +33,7 @@ returns-in_err-rest-clause-err c =
 
 pub returns-in_err-boxed-clause-err : goal.returns-in_err-boxed-clause-err
 returns-in_err-boxed-clause-err c =
-    passed c.from_residual-in_err-boxed.result (Stops read_simple_stmt c.args.bounds.now c.args.left.now) _
+    passed c.from_residual-in_err-boxed.result (Stops read_simple_stmt c.args.bounds.now c.args.left.now)
     c.from_residual-in_err-boxed.ensures.1 no_memory
 
 pub returns-clause-ok : goal.returns-clause-ok

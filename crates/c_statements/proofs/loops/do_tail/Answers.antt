@@ -1,14 +1,13 @@
 use Rattle.std.proofs.Common.{refl}
 use Rattle.c_ast.specs.declared.conditions.Cond.{Cond}
 use Rattle.c_lexer.specs.declared.token.Token.{Token}
-use Rattle.c_grammar.specs.Syntax as s
 use Rattle.c_grammar.specs.declared.signs.Sign.TheVariants as sign
 use Rattle.c_reader.specs.Bounds.{Stops}
 use Rattle.c_statements.specs.Shapes.{read_do_tail}
 use Rattle.c_grammar.proofs.Conditions.{least_cond}
 use Rattle.c_grammar.proofs.Goods.{good_one}
-use Rattle.c_grammar.proofs.Parts.{takes_made, fails_made, takes_token, alive_made}
-use Rattle.c_grammar.proofs.Sequences.{least_one, least_pair}
+use Rattle.c_grammar.proofs.Parts.{takes_made, fails_made, takes_token}
+use Rattle.c_grammar.proofs.Sequences.{least_one, least_pair, least_bracketed}
 use Rattle.c_grammar.proofs.Statements.{good_closed_cond, good_cond}
 use Rattle.c_grammar.proofs.Steps.{passed, pair, in_front, in_back, widen_takes, widen_fails, good_pair}
 use Rattle.c_grammar.proofs.Tokens.{fails_one, real}
@@ -16,23 +15,18 @@ use Rattle.c_statements.proofs.loops.do_tail.Goals as goal
 
 pub returns-in_err-rest-clause-err : goal.returns-in_err-rest-clause-err
 returns-in_err-rest-clause-err c =
-    passed c.from_residual.result (Stops read_do_tail c.args.bounds.now c.args.left.now) c.in_err-rest.field-0.0
-    c.from_residual.ensures.1
+    passed c.from_residual.result (Stops read_do_tail c.args.bounds.now c.args.left.now) c.from_residual.ensures.1
     (widen_fails _ _ _ refl refl refl
     (fails_made (λ (q : Token × (Cond × Token)). q.1.0) _
     (in_front (good_one sign.While) (good_pair good_closed_cond (good_one sign.Semicolon) refl) refl refl
     (least_pair good_closed_cond (good_one sign.Semicolon) refl refl _
-    (alive_made s.middle
-    (least_pair (good_one sign.Open) (good_pair good_cond (good_one sign.Close) refl) refl refl _
-    (least_one sign.Open (real sign.Open tt) _)
-    (least_pair good_cond (good_one sign.Close) refl refl _ (least_cond _)
-    (least_one sign.Close (real sign.Close tt) _)))) (least_one sign.Semicolon (real sign.Semicolon tt) _))
+    (least_bracketed good_cond refl _ (least_cond _)) (least_one sign.Semicolon (real sign.Semicolon tt) _))
     (fails_one sign.While (real sign.While tt) _ _ _ _ c.in_err-rest.ensures.err.0 c.in_err-rest.ensures.err.1))))
 
 pub returns-in_err-cond-clause-err : goal.returns-in_err-cond-clause-err
 returns-in_err-cond-clause-err c =
     passed c.from_residual-in_err-cond.result (Stops read_do_tail c.args.bounds.now c.args.left.now)
-    c.in_err-cond.field-0.0 c.from_residual-in_err-cond.ensures.1
+    c.from_residual-in_err-cond.ensures.1
     (widen_fails _ _ _ refl refl refl
     (fails_made (λ (q : Token × (Cond × Token)). q.1.0) _
     (in_back (good_one sign.While) (good_pair good_closed_cond (good_one sign.Semicolon) refl) refl refl refl
@@ -43,7 +37,7 @@ returns-in_err-cond-clause-err c =
 pub returns-in_err-rest-2-clause-err : goal.returns-in_err-rest-2-clause-err
 returns-in_err-rest-2-clause-err c =
     passed c.from_residual-in_err-rest-2.result (Stops read_do_tail c.args.bounds.now c.args.left.now)
-    c.in_err-rest-2.field-0.0 c.from_residual-in_err-rest-2.ensures.1
+    c.from_residual-in_err-rest-2.ensures.1
     (widen_fails _ _ _ refl refl refl
     (fails_made (λ (q : Token × (Cond × Token)). q.1.0) _
     (in_back (good_one sign.While) (good_pair good_closed_cond (good_one sign.Semicolon) refl) refl refl refl

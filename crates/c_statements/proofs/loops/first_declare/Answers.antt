@@ -10,13 +10,12 @@ use Rattle.c_statements.proofs.loops.first_declare.Goals as goal
 
 pub returns-in_err-declare-clause-err : goal.returns-in_err-declare-clause-err
 returns-in_err-declare-clause-err c =
-    passed c.from_residual.result (Stops read_first_declare c.args.bounds.now c.args.left.now)
-    c.in_err-declare.field-0.0 c.from_residual.ensures.1
+    passed c.from_residual.result (Stops read_first_declare c.args.bounds.now c.args.left.now) c.from_residual.ensures.1
     (widen_fails _ _ _ refl refl refl (fails_made first'.Declare _ c.in_err-declare.ensures.err))
 
 pub returns-in_err-boxed-clause-err : goal.returns-in_err-boxed-clause-err
 returns-in_err-boxed-clause-err c =
-    passed c.from_residual-in_err-boxed.result (Stops read_first_declare c.args.bounds.now c.args.left.now) _
+    passed c.from_residual-in_err-boxed.result (Stops read_first_declare c.args.bounds.now c.args.left.now)
     c.from_residual-in_err-boxed.ensures.1 no_memory
 
 pub returns-clause-ok : goal.returns-clause-ok

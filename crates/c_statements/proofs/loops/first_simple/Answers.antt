@@ -14,8 +14,7 @@ use Rattle.c_statements.proofs.loops.first_simple.Goals as goal
 
 pub returns-in_err-first-clause-err : goal.returns-in_err-first-clause-err
 returns-in_err-first-clause-err c =
-    passed c.from_residual.result (Stops read_first_simple c.args.bounds.now c.args.left.now) c.in_err-first.field-0.0
-    c.from_residual.ensures.1
+    passed c.from_residual.result (Stops read_first_simple c.args.bounds.now c.args.left.now) c.from_residual.ensures.1
     (widen_fails _ _ _ refl refl refl
     (fails_made s.first _
     (in_front good_maybe_first (good_one sign.Semicolon) refl refl
@@ -24,7 +23,7 @@ returns-in_err-first-clause-err c =
 pub returns-in_err-rest-clause-err : goal.returns-in_err-rest-clause-err
 returns-in_err-rest-clause-err c =
     passed c.from_residual-in_err-rest.result (Stops read_first_simple c.args.bounds.now c.args.left.now)
-    c.in_err-rest.field-0.0 c.from_residual-in_err-rest.ensures.1
+    c.from_residual-in_err-rest.ensures.1
     (widen_fails _ _ _ refl refl refl
     (fails_made s.first _
     (in_back good_maybe_first (good_one sign.Semicolon) refl refl refl c.in_ok-first.ensures.ok
@@ -33,7 +32,7 @@ returns-in_err-rest-clause-err c =
 
 pub returns-in_err-boxed-clause-err : goal.returns-in_err-boxed-clause-err
 returns-in_err-boxed-clause-err c =
-    passed c.from_residual-in_err-boxed.result (Stops read_first_simple c.args.bounds.now c.args.left.now) _
+    passed c.from_residual-in_err-boxed.result (Stops read_first_simple c.args.bounds.now c.args.left.now)
     c.from_residual-in_err-boxed.ensures.1 no_memory
 
 pub returns-clause-ok : goal.returns-clause-ok

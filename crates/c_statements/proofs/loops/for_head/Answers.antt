@@ -17,27 +17,27 @@ use Rattle.c_statements.proofs.loops.for_head.Goals as goal
 
 pub returns-in_err-token-clause-err : goal.returns-in_err-token-clause-err
 returns-in_err-token-clause-err c =
-    passed c.from_residual.result (Stops read_for_head c.args.bounds.now c.args.left.now) c.in_err-token.field-0.0
-    c.from_residual.ensures.1 (for_fails (fails_at sign.For (real sign.For tt) c.in_err-token.ensures.err))
+    passed c.from_residual.result (Stops read_for_head c.args.bounds.now c.args.left.now) c.from_residual.ensures.1
+    (for_fails (fails_at sign.For (real sign.For tt) c.in_err-token.ensures.err))
 
 pub returns-in_err-rest-clause-err : goal.returns-in_err-rest-clause-err
 returns-in_err-rest-clause-err c =
     passed c.from_residual-in_err-rest.result (Stops read_for_head c.args.bounds.now c.args.left.now)
-    c.in_err-rest.field-0.0 c.from_residual-in_err-rest.ensures.1
+    c.from_residual-in_err-rest.ensures.1
     (behind_for (reads_at sign.For c.in_ok-token.ensures.ok)
     (open_fails (fails_token sign.Open (real sign.Open tt) c.in_err-rest.ensures.err)))
 
 pub returns-in_err-first-clause-err : goal.returns-in_err-first-clause-err
 returns-in_err-first-clause-err c =
     passed c.from_residual-in_err-first.result (Stops read_for_head c.args.bounds.now c.args.left.now)
-    c.in_err-first.field-0.0 c.from_residual-in_err-first.ensures.1
+    c.from_residual-in_err-first.ensures.1
     (behind_for (reads_at sign.For c.in_ok-token.ensures.ok)
     (behind_open (reads_token sign.Open c.in_ok-rest.ensures.ok) (first_fails c.in_err-first.ensures.err)))
 
 pub returns-in_err-cond-clause-err : goal.returns-in_err-cond-clause-err
 returns-in_err-cond-clause-err c =
     passed c.from_residual-in_err-cond.result (Stops read_for_head c.args.bounds.now c.args.left.now)
-    c.in_err-cond.field-0.0 c.from_residual-in_err-cond.ensures.1
+    c.from_residual-in_err-cond.ensures.1
     (behind_for (reads_at sign.For c.in_ok-token.ensures.ok)
     (behind_open (reads_token sign.Open c.in_ok-rest.ensures.ok)
     (behind_first c.in_ok-first.ensures.ok (cond_fails c.in_err-cond.ensures.err))))
@@ -45,7 +45,7 @@ returns-in_err-cond-clause-err c =
 pub returns-in_err-rest-2-clause-err : goal.returns-in_err-rest-2-clause-err
 returns-in_err-rest-2-clause-err c =
     passed c.from_residual-in_err-rest-2.result (Stops read_for_head c.args.bounds.now c.args.left.now)
-    c.in_err-rest-2.field-0.0 c.from_residual-in_err-rest-2.ensures.1
+    c.from_residual-in_err-rest-2.ensures.1
     (behind_for (reads_at sign.For c.in_ok-token.ensures.ok)
     (behind_open (reads_token sign.Open c.in_ok-rest.ensures.ok)
     (behind_first c.in_ok-first.ensures.ok
@@ -55,7 +55,7 @@ returns-in_err-rest-2-clause-err c =
 pub returns-in_err-next-clause-err : goal.returns-in_err-next-clause-err
 returns-in_err-next-clause-err c =
     passed c.from_residual-in_err-next.result (Stops read_for_head c.args.bounds.now c.args.left.now)
-    c.in_err-next.field-0.0 c.from_residual-in_err-next.ensures.1
+    c.from_residual-in_err-next.ensures.1
     (behind_for (reads_at sign.For c.in_ok-token.ensures.ok)
     (behind_open (reads_token sign.Open c.in_ok-rest.ensures.ok)
     (behind_first c.in_ok-first.ensures.ok
@@ -66,7 +66,7 @@ returns-in_err-next-clause-err c =
 pub returns-in_err-rest-3-clause-err : goal.returns-in_err-rest-3-clause-err
 returns-in_err-rest-3-clause-err c =
     passed c.from_residual-in_err-rest-3.result (Stops read_for_head c.args.bounds.now c.args.left.now)
-    c.in_err-rest-3.field-0.0 c.from_residual-in_err-rest-3.ensures.1
+    c.from_residual-in_err-rest-3.ensures.1
     (behind_for (reads_at sign.For c.in_ok-token.ensures.ok)
     (behind_open (reads_token sign.Open c.in_ok-rest.ensures.ok)
     (behind_first c.in_ok-first.ensures.ok

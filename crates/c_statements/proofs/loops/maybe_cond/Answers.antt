@@ -11,8 +11,7 @@ use Rattle.c_statements.proofs.loops.maybe_cond.Goals as goal
 
 pub returns-in_err-cond-clause-err : goal.returns-in_err-cond-clause-err
 returns-in_err-cond-clause-err c =
-    passed c.from_residual.result (Stops read_maybe_cond c.args.bounds.now c.args.left.now) c.in_err-cond.field-0.0
-    c.from_residual.ensures.1
+    passed c.from_residual.result (Stops read_maybe_cond c.args.bounds.now c.args.left.now) c.from_residual.ensures.1
     (widen_fails _ _ _ refl refl refl
     (left_fails (good_made (named begins_cond cond_goes_on no_sign good_cond refl refl refl) Some)
     (good_nothing None) refl refl

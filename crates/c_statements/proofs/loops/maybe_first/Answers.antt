@@ -12,8 +12,7 @@ use Rattle.c_statements.proofs.loops.maybe_first.Goals as goal
 
 pub returns-in_err-simple-clause-err : goal.returns-in_err-simple-clause-err
 returns-in_err-simple-clause-err c =
-    passed c.from_residual.result (Stops read_maybe_first c.args.bounds.now c.args.left.now) c.in_err-simple.field-0.0
-    c.from_residual.ensures.1
+    passed c.from_residual.result (Stops read_maybe_first c.args.bounds.now c.args.left.now) c.from_residual.ensures.1
     (widen_fails _ _ _ refl refl refl
     (left_fails (good_made (named begins_simple operand_goes_on no_sign good_simple refl refl refl) first'.Simple)
     (good_nothing first'.Nothing) refl refl

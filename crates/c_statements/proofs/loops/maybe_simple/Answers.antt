@@ -13,8 +13,7 @@ use Rattle.c_statements.proofs.loops.maybe_simple.Goals as goal
 
 pub returns-in_err-simple-clause-err : goal.returns-in_err-simple-clause-err
 returns-in_err-simple-clause-err c =
-    passed c.from_residual.result (Stops read_maybe_simple c.args.bounds.now c.args.left.now) c.in_err-simple.field-0.0
-    c.from_residual.ensures.1
+    passed c.from_residual.result (Stops read_maybe_simple c.args.bounds.now c.args.left.now) c.from_residual.ensures.1
     (widen_fails _ _ _ refl refl refl
     (left_fails (good_made (named begins_simple operand_goes_on no_sign good_simple refl refl refl) Some)
     (good_nothing None) refl refl
@@ -23,7 +22,7 @@ returns-in_err-simple-clause-err c =
 
 pub returns-in_err-boxed-clause-err : goal.returns-in_err-boxed-clause-err
 returns-in_err-boxed-clause-err c =
-    passed c.from_residual-in_err-boxed.result (Stops read_maybe_simple c.args.bounds.now c.args.left.now) _
+    passed c.from_residual-in_err-boxed.result (Stops read_maybe_simple c.args.bounds.now c.args.left.now)
     c.from_residual-in_err-boxed.ensures.1 no_memory
 
 pub returns-then-begins_simple-clause-ok : goal.returns-then-begins_simple-clause-ok

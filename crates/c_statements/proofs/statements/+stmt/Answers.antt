@@ -20,27 +20,28 @@ use Rattle.c_grammar.proofs.Branches.{bad_then, bad_else, other_fails, other_tak
 use Rattle.c_grammar.proofs.Choices.{left_takes, right_takes, left_fails, right_fails}
 use Rattle.c_grammar.proofs.Goods.{good_one, good_at}
 use Rattle.c_grammar.proofs.Levels.{deep_stmt, least_stmt}
-use Rattle.c_grammar.proofs.Heads.{good_if_head, good_while_head, good_for_head, good_do_tail, apart, same_apart}
+use Rattle.c_grammar.proofs.Heads.{good_for_head, apart, same_apart}
 use Rattle.c_grammar.proofs.Heads.{headed_for, same_for, least_do_tail}
 use Rattle.c_grammar.proofs.SignLemmas.{one_of}
-use Rattle.c_grammar.proofs.Lists.{Leads, lists, leads_none, leads_more, leads_end, leads_stuck}
+use Rattle.c_grammar.proofs.Lists.{lists, leads_none, leads_more, leads_end, leads_stuck, leads_as}
 use Rattle.c_grammar.proofs.Parts.{takes_made, fails_made, takes_token, takes_same, fails_same, good_made, takes_level}
 use Rattle.c_grammar.proofs.Parts.{fails_level, good_level}
-use Rattle.c_grammar.proofs.Repeats.{least_many, cont_many}
+use Rattle.c_grammar.proofs.Repeats.{least_many}
 use Rattle.c_grammar.proofs.Sequences.{takes_as, least_one, least_pair, takes_unmade, fails_unmade}
 use Rattle.c_grammar.proofs.Statements.{good_declare, good_flat}
-use Rattle.c_grammar.proofs.Statements.{good_nested, good_other, good_part, good_parts, good_stmt}
+use Rattle.c_grammar.proofs.Statements.{good_do_tail, good_nested, good_other, good_part, good_parts, good_stmt}
 use Rattle.c_grammar.proofs.Statements.{same_stmt}
 use Rattle.c_grammar.proofs.Steps.{passed, pair, in_front, in_back, widen_takes, widen_fails, good_pair}
 use Rattle.c_grammar.proofs.Tokens.{fails_one, takes_at, real}
 use Rattle.c_grammar.proofs.Carrying.{carried_ok, carried_err}
-use Rattle.c_statements.proofs.NestedForms.{at_block, at_if, at_while, at_do, at_for}
+use Rattle.c_statements.proofs.Alternatives.Picks.{here, later, only}
+use Rattle.c_statements.proofs.NestedForms.{at_nested}
+use Rattle.c_statements.proofs.Words.{good_tested}
 use Rattle.c_statements.proofs.statements.«+stmt».Goals as goal
 
 pub part-returns-in_err-declare-clause-err : goal.part-returns-in_err-declare-clause-err
 part-returns-in_err-declare-clause-err n c =
-    passed c.from_residual.result (Stops read_part c.args.bounds.now c.args.left.now) c.in_err-declare.field-0.0
-    c.from_residual.ensures.1
+    passed c.from_residual.result (Stops read_part c.args.bounds.now c.args.left.now) c.from_residual.ensures.1
     (widen_fails _ _ _ refl refl refl
     (left_fails (good_made good_declare part'.Declare) (good_made good_stmt part'.Stmt) refl refl
     (sym (ap (λ s. begins_declare s) c.peek.ensures) ∙ sym c.begins_declare.ensures ∙ c.if-begins_declare.true)
@@ -56,7 +57,7 @@ part-returns-then-begins_declare-clause-ok n c =
 pub part-returns-in_err-stmt-clause-err : goal.part-returns-in_err-stmt-clause-err
 part-returns-in_err-stmt-clause-err n c =
     passed c.from_residual-in_err-stmt.result (Stops read_part c.args.bounds.now c.args.left.now)
-    c.in_err-stmt.field-0.0 c.from_residual-in_err-stmt.ensures.1
+    c.from_residual-in_err-stmt.ensures.1
     (widen_fails _ _ _ refl refl refl
     (right_fails (good_made good_declare part'.Declare) (good_made good_stmt part'.Stmt) refl refl refl
     (sym (ap (λ s. begins_declare s) c.peek.ensures) ∙ sym c.begins_declare.ensures ∙ c.if-begins_declare.false)
@@ -71,8 +72,7 @@ part-returns-clause-ok n c =
 
 pub parts-returns-in_err-one-clause-err : goal.parts-returns-in_err-one-clause-err
 parts-returns-in_err-one-clause-err n c =
-    passed c.from_residual.result (Stops read_parts c.args.bounds.now c.args.left.now) c.in_err-one.field-0.0
-    c.from_residual.ensures.1
+    passed c.from_residual.result (Stops read_parts c.args.bounds.now c.args.left.now) c.from_residual.ensures.1
     (widen_fails _ _ _ refl refl refl
     (leads_stuck (good_part good_stmt) (lists begins_part no_sign elses begins_level refl refl refl refl refl)
     c.parts.invariant.leads (sym (ap (λ s. begins_part s) c.peek.ensures) ∙ sym c.begins_part.ensures
@@ -80,28 +80,22 @@ parts-returns-in_err-one-clause-err n c =
 
 pub parts-returns-in_err-push-clause-err : goal.parts-returns-in_err-push-clause-err
 parts-returns-in_err-push-clause-err n c =
-    passed c.from_residual-in_err-push.result (Stops read_parts c.args.bounds.now c.args.left.now) _
+    passed c.from_residual-in_err-push.result (Stops read_parts c.args.bounds.now c.args.left.now)
     c.from_residual-in_err-push.ensures.1 no_memory
 
 pub parts-parts-init : goal.parts-parts-init
 parts-parts-init n c = record {
   shorter = omega arith;
   leads =
-      subst
-      (λ all. Leads read_part.rule begins_part no_sign elses begins_level read_parts.rule
-      (cont_many begins_part no_sign)
-      elses begins_level c.args.bounds.now.room c.args.bounds.now.end c.args.left.now c.args.left.now all)
-      (sym c.new-all.ensures) (leads_none read_part.rule begins_part no_sign elses begins_level _ _ _);
+      leads_as c.new-all.ensures
+      (leads_none read_part.rule begins_part no_sign elses begins_level _ _ _);
 }
 
 pub parts-parts-preserved : goal.parts-parts-preserved
 parts-parts-preserved n c = record {
   shorter = omega (arith, c.parts.invariant.shorter, c.in_ok-one.ensures.shorter);
   leads =
-      subst
-      (λ all. Leads read_part.rule begins_part no_sign elses begins_level read_parts.rule
-      (cont_many begins_part no_sign) elses begins_level c.args.bounds.now.room c.args.bounds.now.end c.args.left.now
-      c.in_ok-one.after.now all) (sym c.in_ok-push.ensures.ok)
+      leads_as c.in_ok-push.ensures.ok
       (leads_more (good_part good_stmt) (lists begins_part no_sign elses begins_level refl refl refl refl refl)
       c.parts.invariant.leads _ _
       (sym (ap (λ s. begins_part s) c.peek.ensures) ∙ sym c.begins_part.ensures ∙ c.parts-test.true)
@@ -117,8 +111,7 @@ parts-returns-clause-ok n c =
 
 pub block-returns-in_err-open-clause-err : goal.block-returns-in_err-open-clause-err
 block-returns-in_err-open-clause-err n c =
-    passed c.from_residual.result (Stops read_block c.args.bounds.now c.args.left.now) c.in_err-open.field-0.0
-    c.from_residual.ensures.1
+    passed c.from_residual.result (Stops read_block c.args.bounds.now c.args.left.now) c.from_residual.ensures.1
     (widen_fails _ _ _ refl refl refl
     (fails_made s.block_of _
     (in_front (good_at sign.OpenBrace) (good_pair (good_parts good_stmt) (good_one sign.CloseBrace) refl) refl refl
@@ -131,7 +124,7 @@ block-returns-in_err-open-clause-err n c =
 pub block-returns-in_err-parts-clause-err : goal.block-returns-in_err-parts-clause-err
 block-returns-in_err-parts-clause-err n c =
     passed c.from_residual-in_err-parts.result (Stops read_block c.args.bounds.now c.args.left.now)
-    c.in_err-parts.field-0.0 c.from_residual-in_err-parts.ensures.1
+    c.from_residual-in_err-parts.ensures.1
     (widen_fails _ _ _ refl refl refl
     (fails_made s.block_of _
     (in_back (good_at sign.OpenBrace) (good_pair (good_parts good_stmt) (good_one sign.CloseBrace) refl) refl refl
@@ -142,7 +135,7 @@ block-returns-in_err-parts-clause-err n c =
 pub block-returns-in_err-close-clause-err : goal.block-returns-in_err-close-clause-err
 block-returns-in_err-close-clause-err n c =
     passed c.from_residual-in_err-close.result (Stops read_block c.args.bounds.now c.args.left.now)
-    c.in_err-close.field-0.0 c.from_residual-in_err-close.ensures.1
+    c.from_residual-in_err-close.ensures.1
     (widen_fails _ _ _ refl refl refl
     (fails_made s.block_of _
     (in_back (good_at sign.OpenBrace) (good_pair (good_parts good_stmt) (good_one sign.CloseBrace) refl) refl refl
@@ -162,8 +155,7 @@ block-returns-clause-ok n c =
 
 pub other-returns-in_err-rest-clause-err : goal.other-returns-in_err-rest-clause-err
 other-returns-in_err-rest-clause-err n c =
-    passed c.from_residual.result (Stops read_other c.args.bounds.now c.args.left.now) c.in_err-rest.field-0.0
-    c.from_residual.ensures.1
+    passed c.from_residual.result (Stops read_other c.args.bounds.now c.args.left.now) c.from_residual.ensures.1
     (absurd (c.in_err-rest.ensures.err.1 (one_of sign.Else _ (sym c.is_next.ensures ∙ c.if-is_next.true))))
 
 pub other-returns-in_err-rest-clause-begins : goal.other-returns-in_err-rest-clause-begins
@@ -172,7 +164,7 @@ other-returns-in_err-rest-clause-begins n c = λ _. (one_of sign.Else _ (sym c.i
 pub other-returns-in_err-stmt-clause-err : goal.other-returns-in_err-stmt-clause-err
 other-returns-in_err-stmt-clause-err n c =
     passed c.from_residual-in_err-stmt.result (Stops read_other c.args.bounds.now c.args.left.now)
-    c.in_err-stmt.field-0.0 c.from_residual-in_err-stmt.ensures.1
+    c.from_residual-in_err-stmt.ensures.1
     (other_fails _ _ _ (one_of sign.Else _ (sym c.is_next.ensures ∙ c.if-is_next.true)) _
     (widen_fails no_sign elses no_sign refl refl refl (fails_made s.second _
     (in_back (good_one sign.Else) good_stmt refl refl refl
@@ -184,7 +176,7 @@ other-returns-in_err-stmt-clause-begins n c = λ _. (one_of sign.Else _ (sym c.i
 
 pub other-returns-in_err-stmt-2-clause-err : goal.other-returns-in_err-stmt-2-clause-err
 other-returns-in_err-stmt-2-clause-err n c =
-    passed c.from_residual-in_err-stmt-2.result (Stops read_other c.args.bounds.now c.args.left.now) _
+    passed c.from_residual-in_err-stmt-2.result (Stops read_other c.args.bounds.now c.args.left.now)
     c.from_residual-in_err-stmt-2.ensures.1 no_memory
 
 pub other-returns-in_err-stmt-2-clause-begins : goal.other-returns-in_err-stmt-2-clause-begins
@@ -203,36 +195,35 @@ other-returns-clause-ok n c = other_none _ _ (sym c.is_next.ensures ∙ c.if-is_
 
 pub if_stmt-returns-in_err-head-clause-err : goal.if_stmt-returns-in_err-head-clause-err
 if_stmt-returns-in_err-head-clause-err n c =
-    passed c.from_residual.result (Stops read_if_stmt c.args.bounds.now c.args.left.now) c.in_err-head.field-0.0
-    c.from_residual.ensures.1
+    passed c.from_residual.result (Stops read_if_stmt c.args.bounds.now c.args.left.now) c.from_residual.ensures.1
     (fails_same (same_apart s.if_of) _
     (widen_fails _ _ _ refl refl refl
     (fails_made (apart s.if_of) _
-    (in_front good_if_head good_tail refl refl (least_tail _) c.in_err-head.ensures.err))))
+    (in_front (good_tested sign.If) good_tail refl refl (least_tail _) c.in_err-head.ensures.err))))
 
 pub if_stmt-returns-in_err-then-clause-err : goal.if_stmt-returns-in_err-then-clause-err
 if_stmt-returns-in_err-then-clause-err n c =
     passed c.from_residual-in_err-then.result (Stops read_if_stmt c.args.bounds.now c.args.left.now)
-    c.in_err-then.field-0.0 c.from_residual-in_err-then.ensures.1
+    c.from_residual-in_err-then.ensures.1
     (fails_same (same_apart s.if_of) _
     (widen_fails _ _ _ refl refl refl
     (fails_made (apart s.if_of) _
-    (in_back good_if_head good_tail refl refl refl c.in_ok-head.ensures.ok
+    (in_back (good_tested sign.If) good_tail refl refl refl c.in_ok-head.ensures.ok
     (bad_then _ _ _ _ c.in_err-then.ensures.err)))))
 
 pub if_stmt-returns-in_err-then-2-clause-err : goal.if_stmt-returns-in_err-then-2-clause-err
 if_stmt-returns-in_err-then-2-clause-err n c =
-    passed c.from_residual-in_err-then-2.result (Stops read_if_stmt c.args.bounds.now c.args.left.now) _
+    passed c.from_residual-in_err-then-2.result (Stops read_if_stmt c.args.bounds.now c.args.left.now)
     c.from_residual-in_err-then-2.ensures.1 no_memory
 
 pub if_stmt-returns-in_err-other-clause-err : goal.if_stmt-returns-in_err-other-clause-err
 if_stmt-returns-in_err-other-clause-err n c =
     passed c.from_residual-in_err-other.result (Stops read_if_stmt c.args.bounds.now c.args.left.now)
-    c.in_err-other.field-0.0 c.from_residual-in_err-other.ensures.1
+    c.from_residual-in_err-other.ensures.1
     (fails_same (same_apart s.if_of) _
     (widen_fails _ _ _ refl refl refl
     (fails_made (apart s.if_of) _
-    (in_back good_if_head good_tail refl refl refl c.in_ok-head.ensures.ok
+    (in_back (good_tested sign.If) good_tail refl refl refl c.in_ok-head.ensures.ok
     (bad_else _ _ _ _ _ _ c.in_ok-then.ensures.ok (c.in_err-other.ensures.begins refl)
     c.in_err-other.ensures.err)))))
 
@@ -240,31 +231,30 @@ pub if_stmt-returns-clause-ok : goal.if_stmt-returns-clause-ok
 if_stmt-returns-clause-ok n c =
     takes_as _ (ap (λ b. stmt'.If c.in_ok-head.head.0 c.in_ok-head.head.1 b c.in_ok-other.other) c.in_ok-then-2.ensures)
     (takes_same (same_apart s.if_of) (widen_takes _ _ refl refl (takes_made (apart s.if_of)
-    (pair good_if_head good_tail refl c.in_ok-head.ensures.ok
+    (pair (good_tested sign.If) good_tail refl c.in_ok-head.ensures.ok
     (widen_takes no_sign elses refl refl
     (pair good_stmt (good_other good_stmt) refl c.in_ok-then.ensures.ok c.in_ok-other.ensures.ok))))))
 
 pub while_stmt-returns-in_err-head-clause-err : goal.while_stmt-returns-in_err-head-clause-err
 while_stmt-returns-in_err-head-clause-err n c =
-    passed c.from_residual.result (Stops read_while_stmt c.args.bounds.now c.args.left.now) c.in_err-head.field-0.0
-    c.from_residual.ensures.1
+    passed c.from_residual.result (Stops read_while_stmt c.args.bounds.now c.args.left.now) c.from_residual.ensures.1
     (fails_same (same_apart s.while_of) _
     (widen_fails _ _ _ refl refl refl
     (fails_made (apart s.while_of) _
-    (in_front good_while_head good_stmt refl refl (least_stmt _) c.in_err-head.ensures.err))))
+    (in_front (good_tested sign.While) good_stmt refl refl (least_stmt _) c.in_err-head.ensures.err))))
 
 pub while_stmt-returns-in_err-body-clause-err : goal.while_stmt-returns-in_err-body-clause-err
 while_stmt-returns-in_err-body-clause-err n c =
     passed c.from_residual-in_err-body.result (Stops read_while_stmt c.args.bounds.now c.args.left.now)
-    c.in_err-body.field-0.0 c.from_residual-in_err-body.ensures.1
+    c.from_residual-in_err-body.ensures.1
     (fails_same (same_apart s.while_of) _
     (widen_fails _ _ _ refl refl refl
     (fails_made (apart s.while_of) _
-    (in_back good_while_head good_stmt refl refl refl c.in_ok-head.ensures.ok c.in_err-body.ensures.err))))
+    (in_back (good_tested sign.While) good_stmt refl refl refl c.in_ok-head.ensures.ok c.in_err-body.ensures.err))))
 
 pub while_stmt-returns-in_err-body-2-clause-err : goal.while_stmt-returns-in_err-body-2-clause-err
 while_stmt-returns-in_err-body-2-clause-err n c =
-    passed c.from_residual-in_err-body-2.result (Stops read_while_stmt c.args.bounds.now c.args.left.now) _
+    passed c.from_residual-in_err-body-2.result (Stops read_while_stmt c.args.bounds.now c.args.left.now)
     c.from_residual-in_err-body-2.ensures.1 no_memory
 
 pub while_stmt-returns-clause-ok : goal.while_stmt-returns-clause-ok
@@ -273,12 +263,11 @@ while_stmt-returns-clause-ok n c =
     (takes_same (same_apart s.while_of)
     (widen_takes _ _ refl refl
     (takes_made (apart s.while_of)
-    (pair good_while_head good_stmt refl c.in_ok-head.ensures.ok c.in_ok-body.ensures.ok))))
+    (pair (good_tested sign.While) good_stmt refl c.in_ok-head.ensures.ok c.in_ok-body.ensures.ok))))
 
 pub do_stmt-returns-in_err-token-clause-err : goal.do_stmt-returns-in_err-token-clause-err
 do_stmt-returns-in_err-token-clause-err n c =
-    passed c.from_residual.result (Stops read_do_stmt c.args.bounds.now c.args.left.now) c.in_err-token.field-0.0
-    c.from_residual.ensures.1
+    passed c.from_residual.result (Stops read_do_stmt c.args.bounds.now c.args.left.now) c.from_residual.ensures.1
     (widen_fails _ _ _ refl refl refl
     (fails_made s.do_of _
     (in_front (good_at sign.Do) (good_pair good_stmt good_do_tail refl) refl refl
@@ -289,7 +278,7 @@ do_stmt-returns-in_err-token-clause-err n c =
 pub do_stmt-returns-in_err-body-clause-err : goal.do_stmt-returns-in_err-body-clause-err
 do_stmt-returns-in_err-body-clause-err n c =
     passed c.from_residual-in_err-body.result (Stops read_do_stmt c.args.bounds.now c.args.left.now)
-    c.in_err-body.field-0.0 c.from_residual-in_err-body.ensures.1
+    c.from_residual-in_err-body.ensures.1
     (widen_fails _ _ _ refl refl refl
     (fails_made s.do_of _
     (in_back (good_at sign.Do) (good_pair good_stmt good_do_tail refl) refl refl refl
@@ -298,13 +287,13 @@ do_stmt-returns-in_err-body-clause-err n c =
 
 pub do_stmt-returns-in_err-body-2-clause-err : goal.do_stmt-returns-in_err-body-2-clause-err
 do_stmt-returns-in_err-body-2-clause-err n c =
-    passed c.from_residual-in_err-body-2.result (Stops read_do_stmt c.args.bounds.now c.args.left.now) _
+    passed c.from_residual-in_err-body-2.result (Stops read_do_stmt c.args.bounds.now c.args.left.now)
     c.from_residual-in_err-body-2.ensures.1 no_memory
 
 pub do_stmt-returns-in_err-cond-clause-err : goal.do_stmt-returns-in_err-cond-clause-err
 do_stmt-returns-in_err-cond-clause-err n c =
     passed c.from_residual-in_err-cond.result (Stops read_do_stmt c.args.bounds.now c.args.left.now)
-    c.in_err-cond.field-0.0 c.from_residual-in_err-cond.ensures.1
+    c.from_residual-in_err-cond.ensures.1
     (widen_fails _ _ _ refl refl refl
     (fails_made s.do_of _
     (in_back (good_at sign.Do) (good_pair good_stmt good_do_tail refl) refl refl refl
@@ -327,8 +316,7 @@ do_stmt-returns-clause-ok n c =
 
 pub for_stmt-returns-in_err-head-clause-err : goal.for_stmt-returns-in_err-head-clause-err
 for_stmt-returns-in_err-head-clause-err n c =
-    passed c.from_residual.result (Stops read_for_stmt c.args.bounds.now c.args.left.now) c.in_err-head.field-0.0
-    c.from_residual.ensures.1
+    passed c.from_residual.result (Stops read_for_stmt c.args.bounds.now c.args.left.now) c.from_residual.ensures.1
     (fails_same same_for _
     (widen_fails _ _ _ refl refl refl
     (fails_made headed_for _
@@ -337,7 +325,7 @@ for_stmt-returns-in_err-head-clause-err n c =
 pub for_stmt-returns-in_err-body-clause-err : goal.for_stmt-returns-in_err-body-clause-err
 for_stmt-returns-in_err-body-clause-err n c =
     passed c.from_residual-in_err-body.result (Stops read_for_stmt c.args.bounds.now c.args.left.now)
-    c.in_err-body.field-0.0 c.from_residual-in_err-body.ensures.1
+    c.from_residual-in_err-body.ensures.1
     (fails_same same_for _
     (widen_fails _ _ _ refl refl refl
     (fails_made headed_for _
@@ -345,7 +333,7 @@ for_stmt-returns-in_err-body-clause-err n c =
 
 pub for_stmt-returns-in_err-body-2-clause-err : goal.for_stmt-returns-in_err-body-2-clause-err
 for_stmt-returns-in_err-body-2-clause-err n c =
-    passed c.from_residual-in_err-body-2.result (Stops read_for_stmt c.args.bounds.now c.args.left.now) _
+    passed c.from_residual-in_err-body-2.result (Stops read_for_stmt c.args.bounds.now c.args.left.now)
     c.from_residual-in_err-body-2.ensures.1 no_memory
 
 pub for_stmt-returns-clause-ok : goal.for_stmt-returns-clause-ok
@@ -359,8 +347,7 @@ for_stmt-returns-clause-ok n c =
 
 pub block_stmt-returns-in_err-block-clause-err : goal.block_stmt-returns-in_err-block-clause-err
 block_stmt-returns-in_err-block-clause-err n c =
-    passed c.from_residual.result (Stops read_block_stmt c.args.bounds.now c.args.left.now) c.in_err-block.field-0.0
-    c.from_residual.ensures.1
+    passed c.from_residual.result (Stops read_block_stmt c.args.bounds.now c.args.left.now) c.from_residual.ensures.1
     (widen_fails _ _ _ refl refl refl (fails_made stmt'.Block _ c.in_err-block.ensures.err))
 
 pub block_stmt-returns-clause-ok : goal.block_stmt-returns-clause-ok
@@ -368,56 +355,66 @@ block_stmt-returns-clause-ok n c = widen_takes _ _ refl refl (takes_made stmt'.B
 
 pub nested-returns-then-is_next-clause-ok : goal.nested-returns-then-is_next-clause-ok
 nested-returns-then-is_next-clause-ok n c =
-    carried_ok (at_block (sym c.is_next.ensures ∙ c.if-is_next.true)) c.block_stmt.result (λ r. r.1.now) (λ r. r.0)
+    carried_ok (at_nested (here (sym c.is_next.ensures ∙ c.if-is_next.true))) c.block_stmt.result (λ r. r.1.now)
+    (λ r. r.0)
     c.block_stmt.ensures.ok
 
 pub nested-returns-then-is_next-clause-err : goal.nested-returns-then-is_next-clause-err
 nested-returns-then-is_next-clause-err n c =
-    carried_err (at_block (sym c.is_next.ensures ∙ c.if-is_next.true)) _ c.block_stmt.result c.block_stmt.ensures.err
+    carried_err (at_nested (here (sym c.is_next.ensures ∙ c.if-is_next.true))) _ c.block_stmt.result
+    c.block_stmt.ensures.err
 
 pub nested-returns-then-is_next-2-clause-ok : goal.nested-returns-then-is_next-2-clause-ok
 nested-returns-then-is_next-2-clause-ok n c =
-    carried_ok (at_if (sym c.is_next.ensures ∙ c.if-is_next.false) (sym c.is_next-2.ensures ∙ c.if-is_next-2.true))
+    carried_ok (at_nested (later (sym c.is_next.ensures ∙ c.if-is_next.false) (here
+    (sym c.is_next-2.ensures ∙ c.if-is_next-2.true))))
     c.if_stmt.result (λ r. r.1.now) (λ r. r.0) c.if_stmt.ensures.ok
 
 pub nested-returns-then-is_next-2-clause-err : goal.nested-returns-then-is_next-2-clause-err
 nested-returns-then-is_next-2-clause-err n c =
-    carried_err (at_if (sym c.is_next.ensures ∙ c.if-is_next.false) (sym c.is_next-2.ensures ∙ c.if-is_next-2.true))
+    carried_err (at_nested (later (sym c.is_next.ensures ∙ c.if-is_next.false) (here
+    (sym c.is_next-2.ensures ∙ c.if-is_next-2.true))))
     _ c.if_stmt.result c.if_stmt.ensures.err
 
 pub nested-returns-then-is_next-3-clause-ok : goal.nested-returns-then-is_next-3-clause-ok
 nested-returns-then-is_next-3-clause-ok n c =
-    carried_ok (at_while (sym c.is_next.ensures ∙ c.if-is_next.false) (sym c.is_next-2.ensures ∙ c.if-is_next-2.false)
-    (sym c.is_next-3.ensures ∙ c.if-is_next-3.true)) c.while_stmt.result (λ r. r.1.now) (λ r. r.0)
+    carried_ok (at_nested (later (sym c.is_next.ensures ∙ c.if-is_next.false) (later
+    (sym c.is_next-2.ensures ∙ c.if-is_next-2.false) (here (sym c.is_next-3.ensures ∙ c.if-is_next-3.true)))))
+    c.while_stmt.result (λ r. r.1.now) (λ r. r.0)
     c.while_stmt.ensures.ok
 
 pub nested-returns-then-is_next-3-clause-err : goal.nested-returns-then-is_next-3-clause-err
 nested-returns-then-is_next-3-clause-err n c =
-    carried_err (at_while (sym c.is_next.ensures ∙ c.if-is_next.false) (sym c.is_next-2.ensures ∙ c.if-is_next-2.false)
-    (sym c.is_next-3.ensures ∙ c.if-is_next-3.true)) _ c.while_stmt.result c.while_stmt.ensures.err
+    carried_err (at_nested (later (sym c.is_next.ensures ∙ c.if-is_next.false) (later
+    (sym c.is_next-2.ensures ∙ c.if-is_next-2.false) (here (sym c.is_next-3.ensures ∙ c.if-is_next-3.true))))) _
+    c.while_stmt.result c.while_stmt.ensures.err
 
 pub nested-returns-then-is_next-4-clause-ok : goal.nested-returns-then-is_next-4-clause-ok
 nested-returns-then-is_next-4-clause-ok n c =
-    carried_ok (at_do (sym c.is_next.ensures ∙ c.if-is_next.false) (sym c.is_next-2.ensures ∙ c.if-is_next-2.false)
-    (sym c.is_next-3.ensures ∙ c.if-is_next-3.false) (sym c.is_next-4.ensures ∙ c.if-is_next-4.true)) c.do_stmt.result
+    carried_ok (at_nested (later (sym c.is_next.ensures ∙ c.if-is_next.false) (later
+    (sym c.is_next-2.ensures ∙ c.if-is_next-2.false) (later (sym c.is_next-3.ensures ∙ c.if-is_next-3.false) (here
+    (sym c.is_next-4.ensures ∙ c.if-is_next-4.true)))))) c.do_stmt.result
     (λ r. r.1.now) (λ r. r.0) c.do_stmt.ensures.ok
 
 pub nested-returns-then-is_next-4-clause-err : goal.nested-returns-then-is_next-4-clause-err
 nested-returns-then-is_next-4-clause-err n c =
-    carried_err (at_do (sym c.is_next.ensures ∙ c.if-is_next.false) (sym c.is_next-2.ensures ∙ c.if-is_next-2.false)
-    (sym c.is_next-3.ensures ∙ c.if-is_next-3.false) (sym c.is_next-4.ensures ∙ c.if-is_next-4.true)) _ c.do_stmt.result
+    carried_err (at_nested (later (sym c.is_next.ensures ∙ c.if-is_next.false) (later
+    (sym c.is_next-2.ensures ∙ c.if-is_next-2.false) (later (sym c.is_next-3.ensures ∙ c.if-is_next-3.false) (here
+    (sym c.is_next-4.ensures ∙ c.if-is_next-4.true)))))) _ c.do_stmt.result
     c.do_stmt.ensures.err
 
 pub nested-returns-clause-ok : goal.nested-returns-clause-ok
 nested-returns-clause-ok n c =
-    carried_ok (at_for (sym c.is_next.ensures ∙ c.if-is_next.false) (sym c.is_next-2.ensures ∙ c.if-is_next-2.false)
-    (sym c.is_next-3.ensures ∙ c.if-is_next-3.false) (sym c.is_next-4.ensures ∙ c.if-is_next-4.false)) c.for_stmt.result
+    carried_ok (at_nested (later (sym c.is_next.ensures ∙ c.if-is_next.false) (later
+    (sym c.is_next-2.ensures ∙ c.if-is_next-2.false) (later (sym c.is_next-3.ensures ∙ c.if-is_next-3.false) (later
+    (sym c.is_next-4.ensures ∙ c.if-is_next-4.false) only))))) c.for_stmt.result
     (λ r. r.1.now) (λ r. r.0) c.for_stmt.ensures.ok
 
 pub nested-returns-clause-err : goal.nested-returns-clause-err
 nested-returns-clause-err n c =
-    carried_err (at_for (sym c.is_next.ensures ∙ c.if-is_next.false) (sym c.is_next-2.ensures ∙ c.if-is_next-2.false)
-    (sym c.is_next-3.ensures ∙ c.if-is_next-3.false) (sym c.is_next-4.ensures ∙ c.if-is_next-4.false)) _
+    carried_err (at_nested (later (sym c.is_next.ensures ∙ c.if-is_next.false) (later
+    (sym c.is_next-2.ensures ∙ c.if-is_next-2.false) (later (sym c.is_next-3.ensures ∙ c.if-is_next-3.false) (later
+    (sym c.is_next-4.ensures ∙ c.if-is_next-4.false) only))))) _
     c.for_stmt.result c.for_stmt.ensures.err
 
 pub stmt-returns-then-not-begins_level-clause-ok : goal.stmt-returns-then-not-begins_level-clause-ok
@@ -442,8 +439,7 @@ stmt-returns-then-not-begins_level-clause-err n c =
 
 pub stmt-returns-in_err-inner-clause-err : goal.stmt-returns-in_err-inner-clause-err
 stmt-returns-in_err-inner-clause-err n c = let f = c.in_err-inner.ensures.err in
-    passed c.from_residual.result (Stops read_stmt c.args.bounds.now c.args.left.now) c.in_err-inner.field-0.0
-    c.from_residual.ensures.1
+    passed c.from_residual.result (Stops read_stmt c.args.bounds.now c.args.left.now) c.from_residual.ensures.1
     (subst (λ e. Stops read_stmt c.args.bounds.now c.args.left.now e) (sym f.0)
     (deep_stmt _ _ _ f.1 (sym (ap (λ s. begins_level s) c.peek.ensures) ∙ sym c.begins_level.ensures
     ∙ c.if-not-begins_level.false)))
@@ -451,7 +447,7 @@ stmt-returns-in_err-inner-clause-err n c = let f = c.in_err-inner.ensures.err in
 pub stmt-returns-in_err-stmt-clause-err : goal.stmt-returns-in_err-stmt-clause-err
 stmt-returns-in_err-stmt-clause-err n c =
     passed c.from_residual-in_err-stmt.result (Stops read_stmt c.args.bounds.now c.args.left.now)
-    c.in_err-stmt.field-0.0 c.from_residual-in_err-stmt.ensures.1
+    c.from_residual-in_err-stmt.ensures.1
     (fails_same same_stmt _
     (widen_fails _ _ _ refl refl refl
     (left_fails (good_level (good_nested good_stmt)) good_flat refl refl
