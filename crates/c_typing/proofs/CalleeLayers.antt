@@ -21,7 +21,7 @@ use Rattle.c_ast.specs.declared.statements.First.{First}
 use Rattle.c_ast.specs.declared.statements.Part as part
 use Rattle.c_ast.specs.declared.statements.Part.TheOpen as layer
 use Rattle.c_ast.specs.declared.statements.Part.TheVariants as part'
-use Rattle.c_ast.specs.declared.statements.Stmt.{Stmt, fold-roll-Stmt}
+use Rattle.c_ast.specs.declared.statements.Stmt.{Stmt, Stmt-F, roll-Stmt, map-Stmt, fold-roll-Stmt}
 use Rattle.c_ast.specs.declared.statements.Stmt.TheVariants as stmt
 use Rattle.c_typing.specs.Callees.{maybe_callees, operand_step, call_step, operand_callees, call_callees}
 use Rattle.c_typing.specs.Callees.{simple_callees}
@@ -112,57 +112,51 @@ callees-parts at close parts =
     fold-roll-Block (List Text) (List Text) (List Text) part_step stmt_step block_step
     (record { at = at; parts = parts; close = close })
 
+-- the functions that a statement calls, by its layer
+callees_layer : (y : Stmt-F part.Part Stmt Block) {s : Stmt} → roll-Stmt y ≡ s → stmt_callees s
+    ≡ stmt_step (map-Stmt _ _ _ _ _ _ part_callees stmt_callees block_callees y)
+callees_layer y is = ap stmt_callees (sym is)
+    ∙ fold-roll-Stmt (List Text) (List Text) (List Text) part_step stmt_step block_step y
+
 pub callees-Empty-stmt : (at : Place) → stmt_callees (stmt.Empty at) ≡ []
-callees-Empty-stmt at = ap stmt_callees (sym (stmt.rolls-Empty at))
-    ∙ fold-roll-Stmt (List Text) (List Text) (List Text) part_step stmt_step block_step (layer.Empty at)
+callees-Empty-stmt at = callees_layer (layer.Empty at) (stmt.rolls-Empty at)
 
 pub callees-Block-stmt : (b : Block) → stmt_callees (stmt.Block b) ≡ block_callees b
-callees-Block-stmt b = ap stmt_callees (sym (stmt.rolls-Block b))
-    ∙ fold-roll-Stmt (List Text) (List Text) (List Text) part_step stmt_step block_step (layer.Block b)
+callees-Block-stmt b = callees_layer (layer.Block b) (stmt.rolls-Block b)
 
 pub callees-Simple-stmt : (s : Simple) → stmt_callees (stmt.Simple s) ≡ simple_callees s
-callees-Simple-stmt s = ap stmt_callees (sym (stmt.rolls-Simple s))
-    ∙ fold-roll-Stmt (List Text) (List Text) (List Text) part_step stmt_step block_step (layer.Simple s)
+callees-Simple-stmt s = callees_layer (layer.Simple s) (stmt.rolls-Simple s)
 
 pub callees-If-stmt : (at : Place) (c : Cond) (s : Stmt) (other : Option Stmt)
     → stmt_callees (stmt.If at c s other) ≡ cond_callees c ++ stmt_callees s ++ other_callees other
-callees-If-stmt at c s None = ap stmt_callees (sym (stmt.rolls-If at c s None))
-    ∙ fold-roll-Stmt (List Text) (List Text) (List Text) part_step stmt_step block_step (layer.If at c s None)
-callees-If-stmt at c s (Some o) = ap stmt_callees (sym (stmt.rolls-If at c s (Some o)))
-    ∙ fold-roll-Stmt (List Text) (List Text) (List Text) part_step stmt_step block_step (layer.If at c s (Some o))
+callees-If-stmt at c s None = callees_layer (layer.If at c s None) (stmt.rolls-If at c s None)
+callees-If-stmt at c s (Some o) = callees_layer (layer.If at c s (Some o)) (stmt.rolls-If at c s (Some o))
 
 pub callees-While-stmt : (at : Place) (c : Cond) (body : Stmt)
     → stmt_callees (stmt.While at c body) ≡ cond_callees c ++ stmt_callees body
-callees-While-stmt at c body = ap stmt_callees (sym (stmt.rolls-While at c body))
-    ∙ fold-roll-Stmt (List Text) (List Text) (List Text) part_step stmt_step block_step (layer.While at c body)
+callees-While-stmt at c body = callees_layer (layer.While at c body) (stmt.rolls-While at c body)
 
 pub callees-Do-stmt : (at : Place) (body : Stmt) (c : Cond)
     → stmt_callees (stmt.Do at body c) ≡ stmt_callees body ++ cond_callees c
-callees-Do-stmt at body c = ap stmt_callees (sym (stmt.rolls-Do at body c))
-    ∙ fold-roll-Stmt (List Text) (List Text) (List Text) part_step stmt_step block_step (layer.Do at body c)
+callees-Do-stmt at body c = callees_layer (layer.Do at body c) (stmt.rolls-Do at body c)
 
 pub callees-For-stmt : (at : Place) (f : First) (c : Option Cond) (next : Option Simple) (body : Stmt)
     → stmt_callees (stmt.For at f c next body) ≡ first_callees f ++ maybe_callees cond_callees c
     ++ maybe_callees simple_callees next ++ stmt_callees body
-callees-For-stmt at f c next body = ap stmt_callees (sym (stmt.rolls-For at f c next body))
-    ∙ fold-roll-Stmt (List Text) (List Text) (List Text) part_step stmt_step block_step (layer.For at f c next body)
+callees-For-stmt at f c next body = callees_layer (layer.For at f c next body) (stmt.rolls-For at f c next body)
 
 pub callees-Return-stmt : (at : Place) (o : Option Operand)
     → stmt_callees (stmt.Return at o) ≡ maybe_callees operand_callees o
-callees-Return-stmt at o = ap stmt_callees (sym (stmt.rolls-Return at o))
-    ∙ fold-roll-Stmt (List Text) (List Text) (List Text) part_step stmt_step block_step (layer.Return at o)
+callees-Return-stmt at o = callees_layer (layer.Return at o) (stmt.rolls-Return at o)
 
 pub callees-Break-stmt : (at : Place) → stmt_callees (stmt.Break at) ≡ []
-callees-Break-stmt at = ap stmt_callees (sym (stmt.rolls-Break at))
-    ∙ fold-roll-Stmt (List Text) (List Text) (List Text) part_step stmt_step block_step (layer.Break at)
+callees-Break-stmt at = callees_layer (layer.Break at) (stmt.rolls-Break at)
 
 pub callees-Continue-stmt : (at : Place) → stmt_callees (stmt.Continue at) ≡ []
-callees-Continue-stmt at = ap stmt_callees (sym (stmt.rolls-Continue at))
-    ∙ fold-roll-Stmt (List Text) (List Text) (List Text) part_step stmt_step block_step (layer.Continue at)
+callees-Continue-stmt at = callees_layer (layer.Continue at) (stmt.rolls-Continue at)
 
 pub callees-Assert-stmt : (at : Place) (c : Cond) → stmt_callees (stmt.Assert at c) ≡ cond_callees c
-callees-Assert-stmt at c = ap stmt_callees (sym (stmt.rolls-Assert at c))
-    ∙ fold-roll-Stmt (List Text) (List Text) (List Text) part_step stmt_step block_step (layer.Assert at c)
+callees-Assert-stmt at c = callees_layer (layer.Assert at c) (stmt.rolls-Assert at c)
 
 pub ruleset callee_layers = (
   callees-Path,

@@ -10,7 +10,7 @@ use Rattle.c_ast.specs.declared.statements.First.{First}
 use Rattle.c_ast.specs.declared.statements.Part as part
 use Rattle.c_ast.specs.declared.statements.Part.TheOpen as layer
 use Rattle.c_ast.specs.declared.statements.Part.TheVariants as part'
-use Rattle.c_ast.specs.declared.statements.Stmt.{Stmt, para-roll-Stmt}
+use Rattle.c_ast.specs.declared.statements.Stmt.{Stmt, Stmt-F, roll-Stmt, map-Stmt, para-roll-Stmt}
 use Rattle.c_ast.specs.declared.statements.Stmt.TheVariants as stmt
 use Rattle.c_types.specs.declared.program.Act.TheVariants.{Error, Break, Continue}
 use Rattle.c_types.specs.declared.program.Stmt.TheVariants.{Do, Branch, While, DoWhile}
@@ -52,73 +52,56 @@ module _ (g : Globals) where
       (each_parts parts (opened scope))
       ∙ ap (λ k. grouped (parts_stmts g parts (opened scope)) k close.line ∷ []) (each_past parts (opened scope))
 
-  pub made-Empty-stmt : (at : Place) (scope : Scope) → stmt_stmts g (stmt.Empty at) scope ≡ []
-  made-Empty-stmt at scope = ap (λ s. stmt_stmts g s scope) (sym (stmt.rolls-Empty at))
+  -- what a statement is, by its layer
+  made_layer : (y : Stmt-F part.Part Stmt Block) {s : Stmt} → roll-Stmt y ≡ s → (scope : Scope)
+      → stmt_stmts g s scope
+      ≡ stmt_step g
+      (map-Stmt _ _ _ _ _ _ (λ p. (p, part_stmts g p)) (λ s. (s, stmt_stmts g s)) (λ b. (b, block_stmts g b)) y) scope
+  made_layer y is scope = ap (λ s. stmt_stmts g s scope) (sym is)
       ∙ ap (λ f. f scope)
-      (para-roll-Stmt (Stmts g) (Stmts g) (Stmts g) (part_step g) (stmt_step g) (block_step g) (layer.Empty at))
+      (para-roll-Stmt (Stmts g) (Stmts g) (Stmts g) (part_step g) (stmt_step g) (block_step g) y)
+
+  pub made-Empty-stmt : (at : Place) (scope : Scope) → stmt_stmts g (stmt.Empty at) scope ≡ []
+  made-Empty-stmt at = made_layer (layer.Empty at) (stmt.rolls-Empty at)
 
   pub made-Block-stmt : (b : Block) (scope : Scope) → stmt_stmts g (stmt.Block b) scope ≡ block_stmts g b scope
-  made-Block-stmt b scope = ap (λ s. stmt_stmts g s scope) (sym (stmt.rolls-Block b))
-      ∙ ap (λ f. f scope)
-      (para-roll-Stmt (Stmts g) (Stmts g) (Stmts g) (part_step g) (stmt_step g) (block_step g) (layer.Block b))
+  made-Block-stmt b = made_layer (layer.Block b) (stmt.rolls-Block b)
 
   pub made-Simple-stmt : (s : Simple) (scope : Scope) → stmt_stmts g (stmt.Simple s) scope ≡ simple_stmts g scope s
-  made-Simple-stmt s scope = ap (λ s. stmt_stmts g s scope) (sym (stmt.rolls-Simple s))
-      ∙ ap (λ f. f scope)
-      (para-roll-Stmt (Stmts g) (Stmts g) (Stmts g) (part_step g) (stmt_step g) (block_step g) (layer.Simple s))
+  made-Simple-stmt s = made_layer (layer.Simple s) (stmt.rolls-Simple s)
 
   pub made-While-stmt : (at : Place) (c : Cond) (body : Stmt) (scope : Scope)
       → stmt_stmts g (stmt.While at c body) scope ≡ While (cond_of g scope c) (stmt_stmts g body scope) ∷ []
-  made-While-stmt at c body scope = ap (λ s. stmt_stmts g s scope) (sym (stmt.rolls-While at c body))
-      ∙ ap (λ f. f scope)
-      (para-roll-Stmt (Stmts g) (Stmts g) (Stmts g) (part_step g) (stmt_step g) (block_step g) (layer.While at c body))
+  made-While-stmt at c body = made_layer (layer.While at c body) (stmt.rolls-While at c body)
 
   pub made-Do-stmt : (at : Place) (body : Stmt) (c : Cond) (scope : Scope) → stmt_stmts g (stmt.Do at body c) scope
       ≡ DoWhile (cond_of g scope c) (stmt_stmts g body scope) ∷ []
-  made-Do-stmt at body c scope = ap (λ s. stmt_stmts g s scope) (sym (stmt.rolls-Do at body c))
-      ∙ ap (λ f. f scope)
-      (para-roll-Stmt (Stmts g) (Stmts g) (Stmts g) (part_step g) (stmt_step g) (block_step g) (layer.Do at body c))
+  made-Do-stmt at body c = made_layer (layer.Do at body c) (stmt.rolls-Do at body c)
 
   pub made-For-stmt : (at : Place) (f : First) (c : Option Cond) (next : Option Simple) (body : Stmt) (scope : Scope)
       → stmt_stmts g (stmt.For at f c next body) scope ≡ for_stmts g f at c next (body, stmt_stmts g body) scope
-  made-For-stmt at f c next body scope = ap (λ s. stmt_stmts g s scope) (sym (stmt.rolls-For at f c next body))
-      ∙ ap (λ f. f scope)
-      (para-roll-Stmt (Stmts g) (Stmts g) (Stmts g) (part_step g) (stmt_step g) (block_step g)
-      (layer.For at f c next body))
+  made-For-stmt at f c next body = made_layer (layer.For at f c next body) (stmt.rolls-For at f c next body)
 
   pub made-Return-stmt : (at : Place) (o : Option Operand) (scope : Scope) → stmt_stmts g (stmt.Return at o) scope
       ≡ Do (return_act g scope scope.home o) at.line ∷ []
-  made-Return-stmt at o scope = ap (λ s. stmt_stmts g s scope) (sym (stmt.rolls-Return at o))
-      ∙ ap (λ f. f scope)
-      (para-roll-Stmt (Stmts g) (Stmts g) (Stmts g) (part_step g) (stmt_step g) (block_step g) (layer.Return at o))
+  made-Return-stmt at o = made_layer (layer.Return at o) (stmt.rolls-Return at o)
 
   pub made-Break-stmt : (at : Place) (scope : Scope) → stmt_stmts g (stmt.Break at) scope ≡ Do Break at.line ∷ []
-  made-Break-stmt at scope = ap (λ s. stmt_stmts g s scope) (sym (stmt.rolls-Break at))
-      ∙ ap (λ f. f scope)
-      (para-roll-Stmt (Stmts g) (Stmts g) (Stmts g) (part_step g) (stmt_step g) (block_step g) (layer.Break at))
+  made-Break-stmt at = made_layer (layer.Break at) (stmt.rolls-Break at)
 
   pub made-Continue-stmt : (at : Place) (scope : Scope) → stmt_stmts g (stmt.Continue at) scope ≡ Do Continue at.line
       ∷ []
-  made-Continue-stmt at scope = ap (λ s. stmt_stmts g s scope) (sym (stmt.rolls-Continue at))
-      ∙ ap (λ f. f scope)
-      (para-roll-Stmt (Stmts g) (Stmts g) (Stmts g) (part_step g) (stmt_step g) (block_step g) (layer.Continue at))
+  made-Continue-stmt at = made_layer (layer.Continue at) (stmt.rolls-Continue at)
 
   pub made-Assert-stmt : (at : Place) (c : Cond) (scope : Scope) → stmt_stmts g (stmt.Assert at c) scope
       ≡ Branch (cond_of g scope c) [] (Do Error at.line ∷ []) ∷ []
-  made-Assert-stmt at c scope = ap (λ s. stmt_stmts g s scope) (sym (stmt.rolls-Assert at c))
-      ∙ ap (λ f. f scope)
-      (para-roll-Stmt (Stmts g) (Stmts g) (Stmts g) (part_step g) (stmt_step g) (block_step g) (layer.Assert at c))
+  made-Assert-stmt at c = made_layer (layer.Assert at c) (stmt.rolls-Assert at c)
 
   pub made-If-stmt : (at : Place) (c : Cond) (s : Stmt) (other : Option Stmt) (scope : Scope)
       → stmt_stmts g (stmt.If at c s other) scope
       ≡ Branch (cond_of g scope c) (stmt_stmts g s scope) (other_stmts g other (past_stmt g s scope)) ∷ []
-  made-If-stmt at c s None scope = ap (λ s. stmt_stmts g s scope) (sym (stmt.rolls-If at c s None))
-      ∙ ap (λ f. f scope)
-      (para-roll-Stmt (Stmts g) (Stmts g) (Stmts g) (part_step g) (stmt_step g) (block_step g) (layer.If at c s None))
-  made-If-stmt at c s (Some o) scope = ap (λ s. stmt_stmts g s scope) (sym (stmt.rolls-If at c s (Some o)))
-      ∙ ap (λ f. f scope)
-      (para-roll-Stmt (Stmts g) (Stmts g) (Stmts g) (part_step g) (stmt_step g) (block_step g)
-      (layer.If at c s (Some o)))
+  made-If-stmt at c s None = made_layer (layer.If at c s None) (stmt.rolls-If at c s None)
+  made-If-stmt at c s (Some o) = made_layer (layer.If at c s (Some o)) (stmt.rolls-If at c s (Some o))
 
 pub ruleset program_layers = (
   made-Declare,

@@ -11,7 +11,7 @@ use Rattle.c_ast.specs.declared.statements.First.{First}
 use Rattle.c_ast.specs.declared.statements.Part as part
 use Rattle.c_ast.specs.declared.statements.Part.TheOpen as layer
 use Rattle.c_ast.specs.declared.statements.Part.TheVariants as part'
-use Rattle.c_ast.specs.declared.statements.Stmt.{Stmt, para-roll-Stmt}
+use Rattle.c_ast.specs.declared.statements.Stmt.{Stmt, Stmt-F, roll-Stmt, map-Stmt, para-roll-Stmt}
 use Rattle.c_ast.specs.declared.statements.Stmt.TheVariants as stmt
 use Rattle.c_typing.specs.BodySites.{maybe_sites, declare_sites, first_sites, rest_sites, Sites, part_step, each_sites}
 use Rattle.c_typing.specs.BodySites.{block_step, stmt_step, part_sites, stmt_sites, block_sites, parts_sites}
@@ -47,78 +47,62 @@ module _ (g : Globals) where
       (para-roll-Block (Sites g) (Sites g) (Sites g) (part_step g) (stmt_step g) (block_step g)
       (record { at = at; parts = parts; close = close })) ∙ each_parts parts loop (opened scope)
 
-  pub stmt-Empty : (at : Place) (loop : Bool) (scope : Scope) → stmt_sites g (stmt.Empty at) loop scope ≡ []
-  stmt-Empty at loop scope = ap (λ s. stmt_sites g s loop scope) (sym (stmt.rolls-Empty at))
+  -- the sites of a statement, by its layer
+  sites_layer : (y : Stmt-F part.Part Stmt Block) {s : Stmt} → roll-Stmt y ≡ s → (loop : Bool) (scope : Scope)
+      → stmt_sites g s loop scope
+      ≡ stmt_step g
+      (map-Stmt _ _ _ _ _ _ (λ p. (p, part_sites g p)) (λ s. (s, stmt_sites g s)) (λ b. (b, block_sites g b)) y)
+      loop scope
+  sites_layer y is loop scope = ap (λ s. stmt_sites g s loop scope) (sym is)
       ∙ ap (λ f. f loop scope)
-      (para-roll-Stmt (Sites g) (Sites g) (Sites g) (part_step g) (stmt_step g) (block_step g) (layer.Empty at))
+      (para-roll-Stmt (Sites g) (Sites g) (Sites g) (part_step g) (stmt_step g) (block_step g) y)
+
+  pub stmt-Empty : (at : Place) (loop : Bool) (scope : Scope) → stmt_sites g (stmt.Empty at) loop scope ≡ []
+  stmt-Empty at = sites_layer (layer.Empty at) (stmt.rolls-Empty at)
 
   pub stmt-Block : (b : Block) (loop : Bool) (scope : Scope) → stmt_sites g (stmt.Block b) loop scope
       ≡ block_sites g b loop scope
-  stmt-Block b loop scope = ap (λ s. stmt_sites g s loop scope) (sym (stmt.rolls-Block b))
-      ∙ ap (λ f. f loop scope)
-      (para-roll-Stmt (Sites g) (Sites g) (Sites g) (part_step g) (stmt_step g) (block_step g) (layer.Block b))
+  stmt-Block b = sites_layer (layer.Block b) (stmt.rolls-Block b)
 
   pub stmt-Simple : (s : Simple) (loop : Bool) (scope : Scope) → stmt_sites g (stmt.Simple s) loop scope
       ≡ simple_sites g scope s
-  stmt-Simple s loop scope = ap (λ s. stmt_sites g s loop scope) (sym (stmt.rolls-Simple s))
-      ∙ ap (λ f. f loop scope)
-      (para-roll-Stmt (Sites g) (Sites g) (Sites g) (part_step g) (stmt_step g) (block_step g) (layer.Simple s))
+  stmt-Simple s = sites_layer (layer.Simple s) (stmt.rolls-Simple s)
 
   pub stmt-While : (at : Place) (c : Cond) (body : Stmt) (loop : Bool) (scope : Scope)
       → stmt_sites g (stmt.While at c body) loop scope ≡ cond_sites g scope c ++ stmt_sites g body true scope
-  stmt-While at c body loop scope = ap (λ s. stmt_sites g s loop scope) (sym (stmt.rolls-While at c body))
-      ∙ ap (λ f. f loop scope)
-      (para-roll-Stmt (Sites g) (Sites g) (Sites g) (part_step g) (stmt_step g) (block_step g) (layer.While at c body))
+  stmt-While at c body = sites_layer (layer.While at c body) (stmt.rolls-While at c body)
 
   pub stmt-Do : (at : Place) (body : Stmt) (c : Cond) (loop : Bool) (scope : Scope)
       → stmt_sites g (stmt.Do at body c) loop scope ≡ stmt_sites g body true scope ++ cond_sites g scope c
-  stmt-Do at body c loop scope = ap (λ s. stmt_sites g s loop scope) (sym (stmt.rolls-Do at body c))
-      ∙ ap (λ f. f loop scope)
-      (para-roll-Stmt (Sites g) (Sites g) (Sites g) (part_step g) (stmt_step g) (block_step g) (layer.Do at body c))
+  stmt-Do at body c = sites_layer (layer.Do at body c) (stmt.rolls-Do at body c)
 
   pub stmt-For : (at : Place) (f : First) (c : Option Cond) (next : Option Simple) (body : Stmt) (loop : Bool)
       (scope : Scope) → stmt_sites g (stmt.For at f c next body) loop scope ≡ first_sites g f (opened scope)
       ++ rest_sites g c next (body, stmt_sites g body) (past_first g f (opened scope))
-  stmt-For at f c next body loop scope = ap (λ s. stmt_sites g s loop scope) (sym (stmt.rolls-For at f c next body))
-      ∙ ap (λ f. f loop scope)
-      (para-roll-Stmt (Sites g) (Sites g) (Sites g) (part_step g) (stmt_step g) (block_step g)
-      (layer.For at f c next body))
+  stmt-For at f c next body = sites_layer (layer.For at f c next body) (stmt.rolls-For at f c next body)
 
   pub stmt-Return : (at : Place) (o : Option Operand) (loop : Bool) (scope : Scope)
       → stmt_sites g (stmt.Return at o) loop scope ≡ Returns scope.home (is_some o) at
       ∷ maybe_sites (wanted_sites g scope Elsewhere (want_of_return g scope.home)) o
-  stmt-Return at o loop scope = ap (λ s. stmt_sites g s loop scope) (sym (stmt.rolls-Return at o))
-      ∙ ap (λ f. f loop scope)
-      (para-roll-Stmt (Sites g) (Sites g) (Sites g) (part_step g) (stmt_step g) (block_step g) (layer.Return at o))
+  stmt-Return at o = sites_layer (layer.Return at o) (stmt.rolls-Return at o)
 
   pub stmt-Break : (at : Place) (loop : Bool) (scope : Scope) → stmt_sites g (stmt.Break at) loop scope ≡ Jumps loop at
       ∷ []
-  stmt-Break at loop scope = ap (λ s. stmt_sites g s loop scope) (sym (stmt.rolls-Break at))
-      ∙ ap (λ f. f loop scope)
-      (para-roll-Stmt (Sites g) (Sites g) (Sites g) (part_step g) (stmt_step g) (block_step g) (layer.Break at))
+  stmt-Break at = sites_layer (layer.Break at) (stmt.rolls-Break at)
 
   pub stmt-Continue : (at : Place) (loop : Bool) (scope : Scope) → stmt_sites g (stmt.Continue at) loop scope
       ≡ Jumps loop at ∷ []
-  stmt-Continue at loop scope = ap (λ s. stmt_sites g s loop scope) (sym (stmt.rolls-Continue at))
-      ∙ ap (λ f. f loop scope)
-      (para-roll-Stmt (Sites g) (Sites g) (Sites g) (part_step g) (stmt_step g) (block_step g) (layer.Continue at))
+  stmt-Continue at = sites_layer (layer.Continue at) (stmt.rolls-Continue at)
 
   pub stmt-Assert : (at : Place) (c : Cond) (loop : Bool) (scope : Scope) → stmt_sites g (stmt.Assert at c) loop scope
       ≡ cond_sites g scope c
-  stmt-Assert at c loop scope = ap (λ s. stmt_sites g s loop scope) (sym (stmt.rolls-Assert at c))
-      ∙ ap (λ f. f loop scope)
-      (para-roll-Stmt (Sites g) (Sites g) (Sites g) (part_step g) (stmt_step g) (block_step g) (layer.Assert at c))
+  stmt-Assert at c = sites_layer (layer.Assert at c) (stmt.rolls-Assert at c)
 
   pub stmt-If : (at : Place) (c : Cond) (s : Stmt) (other : Option Stmt) (loop : Bool) (scope : Scope)
       → stmt_sites g (stmt.If at c s other) loop scope ≡ cond_sites g scope c ++ stmt_sites g s loop scope
       ++ other_sites g other loop (past_stmt g s scope)
-  stmt-If at c s None loop scope = ap (λ s. stmt_sites g s loop scope) (sym (stmt.rolls-If at c s None))
-      ∙ ap (λ f. f loop scope)
-      (para-roll-Stmt (Sites g) (Sites g) (Sites g) (part_step g) (stmt_step g) (block_step g) (layer.If at c s None))
-  stmt-If at c s (Some o) loop scope = ap (λ s. stmt_sites g s loop scope) (sym (stmt.rolls-If at c s (Some o)))
-      ∙ ap (λ f. f loop scope)
-      (para-roll-Stmt (Sites g) (Sites g) (Sites g) (part_step g) (stmt_step g) (block_step g)
-      (layer.If at c s (Some o)))
+  stmt-If at c s None = sites_layer (layer.If at c s None) (stmt.rolls-If at c s None)
+  stmt-If at c s (Some o) = sites_layer (layer.If at c s (Some o)) (stmt.rolls-If at c s (Some o))
 
 pub ruleset site_layers = (
   part-Declare,
