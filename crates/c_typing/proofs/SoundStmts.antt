@@ -218,6 +218,12 @@ module _ (g : Globals) (V : List VarDef) (D n : ℕ) (size : length g.structs �
   abbrev each : List Stmt → Spot → Bool
   each ss = each_typed (shapes g V D) V D (map (stmt_typed (shapes g V D) V D F H) ss)
 
+  -- a loop's test, and its body
+  round_typed : {test : Bool} (body : List Stmt) (loop : Bool) → test ≡ true → Typed g V D F H body InBody
+      → (test && each body (body_of (spot_of loop))) ≡ true
+  round_typed body loop test round = ap (λ b. b && each body (body_of (spot_of loop))) test
+      ∙ subst (λ spot. each body spot ≡ true) (sym (body_spot loop)) round
+
   loop_typed : (at : Place) (c : Option tree.Cond) (next : Option Simple) (body : tree'.Stmt) (loop : Bool)
       (scope : Scope) → Ready scope
       → cond_typed (shapes g V D) V D (maybe_cond g scope at.line c) ≡ true
@@ -231,8 +237,7 @@ module _ (g : Globals) (V : List VarDef) (D n : ℕ) (size : length g.structs �
       ∙ ap
       (λ b. b
       && (each (maybe_simple g scope next) InNext && each (stmt_stmts g body scope) (body_of (spot_of loop)))) test
-      ∙ ap (λ b. b && each (stmt_stmts g body scope) (body_of (spot_of loop))) step
-      ∙ subst (λ spot. each (stmt_stmts g body scope) spot ≡ true) (sym (body_spot loop)) round)
+      ∙ round_typed (stmt_stmts g body scope) loop step round)
 
   for_typed : (f : First) (at : Place) (c : Option tree.Cond) (next : Option Simple) (body : tree'.Stmt) (loop : Bool)
       (scope : Scope) → Within g V D (past_first g f (opened scope)) → Ready scope
@@ -319,14 +324,8 @@ module _ (g : Globals) (V : List VarDef) (D n : ℕ) (size : length g.structs �
       told _ _ (spot_of loop) _ _ (made.made-While-stmt g at c body scope) (past.past-While-stmt g at c body scope) (
         typed_one g V D F H (While (cond_of g scope c) (stmt_stmts g body scope)) (spot_of loop)
             (typed-While (shapes g V D) V D F H (cond_of g scope c) (stmt_stmts g body scope) (spot_of loop)
-            ∙ ap
-            (λ b. b
-            && each_typed (shapes g V D) V D (map (stmt_typed (shapes g V D) V D F H) (stmt_stmts g body scope))
-            (body_of (spot_of loop))) (cond_is_typed g V D F H n globals scope ready.0 funcs c all.0)
-            ∙ subst
-            (λ spot. each_typed (shapes g V D) V D
-            (map (stmt_typed (shapes g V D) V D F H) (stmt_stmts g body scope)) spot ≡ true)
-            (sym (body_spot loop)) round.0),
+            ∙ round_typed (stmt_stmts g body scope) loop
+            (cond_is_typed g V D F H n globals scope ready.0 funcs c all.0) round.0),
         round.1,
       )
 
@@ -340,14 +339,8 @@ module _ (g : Globals) (V : List VarDef) (D n : ℕ) (size : length g.structs �
       told _ _ (spot_of loop) _ _ (made.made-Do-stmt g at body c scope) (past.past-Do-stmt g at body c scope) (
         typed_one g V D F H (DoWhile (cond_of g scope c) (stmt_stmts g body scope)) (spot_of loop)
             (typed-DoWhile (shapes g V D) V D F H (cond_of g scope c) (stmt_stmts g body scope) (spot_of loop)
-            ∙ ap
-            (λ b. b
-            && each_typed (shapes g V D) V D (map (stmt_typed (shapes g V D) V D F H) (stmt_stmts g body scope))
-            (body_of (spot_of loop))) (cond_is_typed g V D F H n globals scope ready.0 funcs c all.1)
-            ∙ subst
-            (λ spot. each_typed (shapes g V D) V D
-            (map (stmt_typed (shapes g V D) V D F H) (stmt_stmts g body scope)) spot ≡ true)
-            (sym (body_spot loop)) round.0),
+            ∙ round_typed (stmt_stmts g body scope) loop
+            (cond_is_typed g V D F H n globals scope ready.0 funcs c all.1) round.0),
         round.1,
       )
 
