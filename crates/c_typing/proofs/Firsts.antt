@@ -33,15 +33,12 @@ abbrev IsOther : Head → Type 0
 IsOther h = is_main h ≡ false
 
 item_others : (i : Item) → Every IsOther (functions_in i)
-item_others (item.Struct at name fields) = tt
-item_others (item.Enum at name values) = tt
-item_others (item.Proto outer head) = tt
 item_others (item.Function head body) = either (is_main head) refl
   where
     either : (k : Bool) → is_main head ≡ k → Every IsOther (cond k [] (head ∷ []))
     either true is = tt
     either false is = (is, tt)
-item_others (item.Declare d) = tt
+item_others _ = tt
 
 all_others : (is : List Item) → Every IsOther (each_of functions_in is)
 all_others [] = tt

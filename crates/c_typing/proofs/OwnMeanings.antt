@@ -101,14 +101,8 @@ module _ (g : Globals) (A : VarRef → Type 0) where
   field_own p (Some (use_of.Datum number)) own = (own, tt)
 
   followed_own : (m : Meaning) (x : Text) → OwnMeaning m → OwnMeaning (followed g m x)
-  followed_own (meaning.Pointer p None) x own = tt
   followed_own (meaning.Pointer p (Some s)) x own = field_own p (field_use g s x) own
-  followed_own (meaning.Datum d) x own = tt
-  followed_own (meaning.Known k) x own = tt
-  followed_own meaning.Zero x own = tt
-  followed_own meaning.Null x own = tt
-  followed_own meaning.Call x own = tt
-  followed_own meaning.Broken x own = tt
+  followed_own _ x own = tt
 
   all_own : (m : Meaning) (rest : List Arrow) → OwnMeaning m → OwnMeaning (all_followed g m rest)
   all_own m [] own = own
@@ -118,76 +112,38 @@ module _ (g : Globals) (A : VarRef → Type 0) where
 
   pub ptr_op_own : (m : Meaning) → OwnMeaning m → Every A (op_names (ptr_op_of m))
   ptr_op_own (meaning.Pointer p to) own = (own, tt)
-  ptr_op_own (meaning.Datum d) own = tt
-  ptr_op_own (meaning.Known k) own = tt
-  ptr_op_own meaning.Zero own = tt
-  ptr_op_own meaning.Null own = tt
-  ptr_op_own meaning.Call own = tt
-  ptr_op_own meaning.Broken own = tt
+  ptr_op_own _ own = tt
 
   pub data_op_own : (m : Meaning) → OwnMeaning m → Every A (data_op_names (data_op_of m))
-  data_op_own (meaning.Pointer p to) own = tt
   data_op_own (meaning.Datum d) own = own
-  data_op_own (meaning.Known k) own = tt
-  data_op_own meaning.Zero own = tt
-  data_op_own meaning.Null own = tt
-  data_op_own meaning.Call own = tt
-  data_op_own meaning.Broken own = tt
+  data_op_own _ own = tt
 
   pub ptr_rhs_own : (m : Meaning) → OwnMeaning m → Every A (rhs_names (ptr_rhs_of m))
   ptr_rhs_own (meaning.Pointer p to) own = (own, tt)
-  ptr_rhs_own (meaning.Datum d) own = tt
-  ptr_rhs_own (meaning.Known k) own = tt
-  ptr_rhs_own meaning.Zero own = tt
-  ptr_rhs_own meaning.Null own = tt
-  ptr_rhs_own meaning.Call own = tt
-  ptr_rhs_own meaning.Broken own = tt
+  ptr_rhs_own _ own = tt
 
   pub data_rhs_own : (m : Meaning) → OwnMeaning m → Every A (data_rhs_names (data_rhs_of m))
-  data_rhs_own (meaning.Pointer p to) own = tt
   data_rhs_own (meaning.Datum d) own = own
-  data_rhs_own (meaning.Known k) own = tt
-  data_rhs_own meaning.Zero own = tt
-  data_rhs_own meaning.Null own = tt
-  data_rhs_own meaning.Call own = tt
-  data_rhs_own meaning.Broken own = tt
+  data_rhs_own _ own = tt
 
   pub assigned_own : (target : Meaning) (p : PtrRhs) (d : DataRhs) → OwnMeaning target → Every A (rhs_names p)
       → Every A (data_rhs_names d) → Every A (act_names (assigned target p d))
   assigned_own (meaning.Pointer q to) p d own left right = (own, left)
   assigned_own (meaning.Datum e) p d own left right = every_append A (data_names e) (data_rhs_names d) own right
-  assigned_own (meaning.Known k) p d own left right = tt
-  assigned_own meaning.Zero p d own left right = tt
-  assigned_own meaning.Null p d own left right = tt
-  assigned_own meaning.Call p d own left right = tt
-  assigned_own meaning.Broken p d own left right = tt
+  assigned_own _ p d own left right = tt
 
   pub freed_own : (m : Meaning) → OwnMeaning m → Every A (act_names (freed m))
   freed_own (meaning.Pointer p to) own = (own, tt)
-  freed_own (meaning.Datum d) own = tt
-  freed_own (meaning.Known k) own = tt
-  freed_own meaning.Zero own = tt
-  freed_own meaning.Null own = tt
-  freed_own meaning.Call own = tt
-  freed_own meaning.Broken own = tt
+  freed_own _ own = tt
 
   pub returned_own : (m : Meaning) → OwnMeaning m → Every A (maybe_names data_names (returned m))
-  returned_own (meaning.Pointer p to) own = tt
   returned_own (meaning.Datum d) own = own
-  returned_own (meaning.Known k) own = tt
-  returned_own meaning.Zero own = tt
-  returned_own meaning.Null own = tt
-  returned_own meaning.Call own = tt
-  returned_own meaning.Broken own = tt
+  returned_own _ own = tt
 
   pub dest_own : (m : Meaning) → OwnMeaning m → Every A (maybe_names dest_names (dest_of m))
   dest_own (meaning.Pointer p to) own = (own, tt)
   dest_own (meaning.Datum d) own = own
-  dest_own (meaning.Known k) own = tt
-  dest_own meaning.Zero own = tt
-  dest_own meaning.Null own = tt
-  dest_own meaning.Call own = tt
-  dest_own meaning.Broken own = tt
+  dest_own _ own = tt
 
   pub arg_own : (k : Kind) (m : Meaning) → OwnMeaning m → Every A (arg_names (arg_of k m))
   arg_own (Points to) m own = ptr_op_own m own
@@ -196,11 +152,7 @@ module _ (g : Globals) (A : VarRef → Type 0) where
   truth_own : (m : Meaning) → OwnMeaning m → Every A (atom_names (truth m))
   truth_own (meaning.Pointer p to) own = (own, tt)
   truth_own (meaning.Datum d) own = every_append A (data_names d) [] own tt
-  truth_own (meaning.Known k) own = tt
-  truth_own meaning.Zero own = tt
-  truth_own meaning.Null own = tt
-  truth_own meaning.Call own = tt
-  truth_own meaning.Broken own = tt
+  truth_own _ own = tt
 
   comparison_own : (e : Bool) (l r : Meaning) → OwnMeaning l → OwnMeaning r
       → Every A (atom_names (comparison e l r))
@@ -225,11 +177,8 @@ module _ (g : Globals) (A : VarRef → Type 0) where
 
     layer_own : (o : Operand-F Operand Call) → OwnMeaning (operand_meaning g scope o)
     layer_own (operand.Path p) = path_own p
-    layer_own (operand.Call c) = tt
     layer_own (operand.Number x) = number_own (numeral x.text)
-    layer_own (operand.Null at) = tt
-    layer_own (operand.True at) = tt
-    layer_own (operand.False at) = tt
+    layer_own _ = tt
 
     pub operand_own : (o : Operand) → OwnMeaning (meaning_of_operand g scope o)
     operand_own o = layer_own (out-Operand o)

@@ -244,7 +244,6 @@ module _ (g : Globals) (A : VarRef → Type 0) (C : ℕ → Type 0) (M : Text �
         → OwnMeaning g A target → out-Operand o ≡ y → IsClean g (right_step g scope w o y)
         → Every M (operand_callees o)
         → Right (stored g scope (call_in y) (dest_of target) (assignment g scope target (rhs.Operand o)) line ∷ [])
-    operand_right target w o (operand.Path p) line mine is clean all = do_right _ line (act_own target o mine)
     operand_right target w o (operand.Call c) line mine is clean all =
         let calls : IsClean g (call_sites g scope RightSpot c) =
         (clean_parts g (value_sites g scope w c) (call_sites g scope RightSpot c)
@@ -254,10 +253,7 @@ module _ (g : Globals) (A : VarRef → Type 0) (C : ℕ → Type 0) (M : Text �
         call_stmt_right scope own (out-Call c).name.text (out-Call c).operands (dest_of target) _ line
         (subst (Every M) (operand_called o c is) all).0 (free_of RightSpot c calls) (dest_own g A target mine)
         (act_own target o mine) (called_number g (out-Call c).name.text) refl
-    operand_right target w o (operand.Number x) line mine is clean all = do_right _ line (act_own target o mine)
-    operand_right target w o (operand.Null at) line mine is clean all = do_right _ line (act_own target o mine)
-    operand_right target w o (operand.True at) line mine is clean all = do_right _ line (act_own target o mine)
-    operand_right target w o (operand.False at) line mine is clean all = do_right _ line (act_own target o mine)
+    operand_right target w o _ line mine is clean all = do_right _ line (act_own target o mine)
 
     assign_right : (target : Meaning) (w : Want) (r : Rhs) (line : ℕ) → OwnMeaning g A target
         → IsClean g (rhs_sites g scope w r) → Every M (rhs_callees r)

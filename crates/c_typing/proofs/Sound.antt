@@ -207,12 +207,7 @@ module _ (g : Globals) (V : List VarDef) (D : ℕ) where
         (subst (λ ts. GoodUse 0 0 ts (datums_in (map field_of (fields_of g.structs s))) (field_use g s x))
         (sym (targets-shapes g.structs s))
         (use_good n x 0 0 (fields_of g.structs s) (fields_good n g.structs s globals.0))))
-    followed_good (Datum d) x good = tt
-    followed_good (Known k) x good = tt
-    followed_good Zero x good = tt
-    followed_good Null x good = tt
-    followed_good CallThere x good = tt
-    followed_good Broken x good = tt
+    followed_good _ x good = tt
 
     all_good : (m : Meaning) (rest : List Arrow) → GoodMeaning m → GoodMeaning (all_followed g m rest)
     all_good m [] good = good

@@ -32,33 +32,20 @@ module _ (g : Globals) (V : List VarDef) (D : ℕ) where
   some_target p s is = ap is_some is
 
   pub data_op_good : (m : Meaning) → GoodMeaning g V D m → data_op_typed (shapes g V D) V D (data_op_of m) ≡ true
-  data_op_good (Pointer p to) good = refl
   data_op_good (Datum d) good = good
   data_op_good (Known k) good = good
-  data_op_good Zero good = refl
-  data_op_good Null good = refl
-  data_op_good CallThere good = refl
-  data_op_good Broken good = refl
+  data_op_good _ good = refl
 
   data_rhs_good : (m : Meaning) → GoodMeaning g V D m → data_rhs_typed (shapes g V D) V D (data_rhs_of m) ≡ true
-  data_rhs_good (Pointer p to) good = refl
   data_rhs_good (Datum d) good = good
   data_rhs_good (Known k) good = good
-  data_rhs_good Zero good = refl
-  data_rhs_good Null good = refl
-  data_rhs_good CallThere good = refl
-  data_rhs_good Broken good = refl
+  data_rhs_good _ good = refl
 
   ptr_rhs_good : (a : Option ℕ) (s : ℕ) (m : Meaning) → a ≡ Some s → GoodMeaning g V D m → differ (Some s) (struct_at m)
       ≡ false → rhs_typed (shapes g V D) V D a (ptr_rhs_of m) ≡ true
   ptr_rhs_good a s (Pointer q None) is good same = absurd good
   ptr_rhs_good a s (Pointer q (Some t)) is good same = one_struct s t a (path_target (shapes g V D) V D q) is good same
-  ptr_rhs_good a s (Datum d) is good same = ap is_some is
-  ptr_rhs_good a s (Known k) is good same = ap is_some is
-  ptr_rhs_good a s Zero is good same = ap is_some is
-  ptr_rhs_good a s Null is good same = ap is_some is
-  ptr_rhs_good a s CallThere is good same = ap is_some is
-  ptr_rhs_good a s Broken is good same = ap is_some is
+  ptr_rhs_good a s _ is good same = ap is_some is
 
   -- what is assigned to a good target
   pub assigned_typed : (F : List Func) (H : Option ℕ) (target m : Meaning) (spot : Spot) → GoodMeaning g V D target
@@ -70,11 +57,7 @@ module _ (g : Globals) (V : List VarDef) (D : ℕ) where
       ptr_rhs_good (path_target (shapes g V D) V D p) s m good other same
   assigned_typed F H (Datum d) m spot good other same =
       ap (λ b. b && data_rhs_typed (shapes g V D) V D (data_rhs_of m)) good ∙ data_rhs_good m other
-  assigned_typed F H (Known k) m spot good other same = refl
-  assigned_typed F H Zero m spot good other same = refl
-  assigned_typed F H Null m spot good other same = refl
-  assigned_typed F H CallThere m spot good other same = refl
-  assigned_typed F H Broken m spot good other same = refl
+  assigned_typed F H _ m spot good other same = refl
 
   -- a new cell is of the target's struct
   pub new_typed : (F : List Func) (H : Option ℕ) (target : Meaning) (spot : Spot) → GoodMeaning g V D target
@@ -84,33 +67,19 @@ module _ (g : Globals) (V : List VarDef) (D : ℕ) where
   new_typed F H (Pointer p None) spot good = absurd good
   new_typed F H (Pointer p (Some s)) spot good = ap (λ o. is_target o s) good ∙ eq-eqb s s refl
   new_typed F H (Datum d) spot good = ap (λ b. b && true) good
-  new_typed F H (Known k) spot good = refl
-  new_typed F H Zero spot good = refl
-  new_typed F H Null spot good = refl
-  new_typed F H CallThere spot good = refl
-  new_typed F H Broken spot good = refl
+  new_typed F H _ spot good = refl
 
   pub freed_typed : (F : List Func) (H : Option ℕ) (m : Meaning) (spot : Spot) → GoodMeaning g V D m
       → act_typed (shapes g V D) V D F H (freed m) spot
       ≡ true
   freed_typed F H (Pointer p None) spot good = absurd good
   freed_typed F H (Pointer p (Some s)) spot good = ap is_some good
-  freed_typed F H (Datum d) spot good = refl
-  freed_typed F H (Known k) spot good = refl
-  freed_typed F H Zero spot good = refl
-  freed_typed F H Null spot good = refl
-  freed_typed F H CallThere spot good = refl
-  freed_typed F H Broken spot good = refl
+  freed_typed F H _ spot good = refl
 
   pub returned_good : (F : List Func) (m : Meaning) (spot : Spot) → GoodMeaning g V D m
       → act_typed (shapes g V D) V D F None (act.Return (returned m)) spot ≡ true
-  returned_good F (Pointer p to) spot good = refl
   returned_good F (Datum d) spot good = good
-  returned_good F (Known k) spot good = refl
-  returned_good F Zero spot good = refl
-  returned_good F Null spot good = refl
-  returned_good F CallThere spot good = refl
-  returned_good F Broken spot good = refl
+  returned_good F _ spot good = refl
 
   -- Atoms
 
@@ -118,34 +87,20 @@ module _ (g : Globals) (V : List VarDef) (D : ℕ) where
   truth_typed (Pointer p None) good = absurd good
   truth_typed (Pointer p (Some s)) good = ap is_some good
   truth_typed (Datum d) good = ap (λ b. b && true) good
-  truth_typed (Known k) good = refl
-  truth_typed Zero good = refl
-  truth_typed Null good = refl
-  truth_typed CallThere good = refl
-  truth_typed Broken good = refl
+  truth_typed _ good = refl
 
   -- a null pointer and anything good
   null_left : (r : Meaning) → GoodMeaning g V D r → ops_typed (shapes g V D) V D (ptr_op_of Null) (ptr_op_of r) ≡ true
   null_left (Pointer q None) good = absurd good
   null_left (Pointer q (Some t)) good = ap is_some good
-  null_left (Datum d) good = refl
-  null_left (Known k) good = refl
-  null_left Zero good = refl
-  null_left Null good = refl
-  null_left CallThere good = refl
-  null_left Broken good = refl
+  null_left _ good = refl
 
   pointer_left : (p : _) (s : ℕ) (r : Meaning) → path_target (shapes g V D) V D p ≡ Some s → GoodMeaning g V D r
       → differ (Some s) (struct_at r) ≡ false
       → ops_typed (shapes g V D) V D (ptr_op_of (Pointer p (Some s))) (ptr_op_of r) ≡ true
   pointer_left p s (Pointer q None) is good same = absurd good
   pointer_left p s (Pointer q (Some t)) is good same = one_struct s t _ _ is good same
-  pointer_left p s (Datum d) is good same = ap is_some is
-  pointer_left p s (Known k) is good same = ap is_some is
-  pointer_left p s Zero is good same = ap is_some is
-  pointer_left p s Null is good same = ap is_some is
-  pointer_left p s CallThere is good same = ap is_some is
-  pointer_left p s Broken is good same = ap is_some is
+  pointer_left p s _ is good same = ap is_some is
 
   both_data : (l r : Meaning) → GoodMeaning g V D l → GoodMeaning g V D r
       → (data_op_typed (shapes g V D) V D (data_op_of l) && data_op_typed (shapes g V D) V D (data_op_of r)) ≡ true
@@ -158,10 +113,7 @@ module _ (g : Globals) (V : List VarDef) (D : ℕ) where
   zero_left e (Pointer q (Some t)) good = ap is_some good
   zero_left e (Datum d) good = good
   zero_left e (Known k) good = good
-  zero_left e Zero good = refl
-  zero_left e Null good = refl
-  zero_left e CallThere good = refl
-  zero_left e Broken good = refl
+  zero_left e _ good = refl
 
   pub comparison_typed : (e : Bool) (l r : Meaning) → GoodMeaning g V D l → GoodMeaning g V D r
       → differ (wanted_struct (want_of_left l)) (struct_at r) ≡ false

@@ -102,22 +102,15 @@ module _ (g : Globals) (V : List VarDef) (D : ℕ) where
   ptr_arg_good s x (meaning.Pointer q None) is good same = absurd good
   ptr_arg_good s x (meaning.Pointer q (Some t)) is good same =
       one_struct s t (var_target V x) (path_target (shapes g V D) V D q) is good same
-  ptr_arg_good s x (meaning.Datum d) is good same = ap is_some is
-  ptr_arg_good s x (meaning.Known k) is good same = ap is_some is
-  ptr_arg_good s x meaning.Zero is good same = ap is_some is
-  ptr_arg_good s x meaning.Null is good same = ap is_some is
-  ptr_arg_good s x meaning.Call is good same = ap is_some is
-  ptr_arg_good s x meaning.Broken is good same = ap is_some is
+  ptr_arg_good s x _ is good same = ap is_some is
 
   pub arg_good : (k : Kind) (v : VarRef) (m : Meaning) → GoodRef k v → GoodMeaning g V D m
       → differ (wanted_struct (want_of_kind k)) (struct_at m) ≡ false
       → arg_typed (shapes g V D) V D v (arg_of k m) ≡ true
-  arg_good (Points None) v m ref good same = absurd ref
   arg_good (Points (Some s)) (Ptr x) m ref good same = ptr_arg_good s x m ref good same
-  arg_good (Points (Some s)) (Data x) m ref good same = absurd ref
-  arg_good DatumKind (Ptr x) m ref good same = absurd ref
   arg_good DatumKind (Data x) m ref good same = ap (λ b. b && data_op_typed (shapes g V D) V D (data_op_of m)) ref
       ∙ data_op_good g V D m good
+  arg_good _ _ m ref good same = absurd ref
 
   -- What a result is assigned to
 
@@ -143,11 +136,7 @@ module _ (g : Globals) (V : List VarDef) (D : ℕ) where
   some_dest_good k v (meaning.Pointer p None) ref good c = absurd good
   some_dest_good k v (meaning.Pointer p (Some s)) ref good c = ptr_dest_good k v p s ref good c
   some_dest_good k v (meaning.Datum d) ref good c = data_dest_good k v d ref good c
-  some_dest_good k v (meaning.Known n) ref good c = refl
-  some_dest_good k v meaning.Zero ref good c = refl
-  some_dest_good k v meaning.Null ref good c = refl
-  some_dest_good k v meaning.Call ref good c = refl
-  some_dest_good k v meaning.Broken ref good c = refl
+  some_dest_good k v _ ref good c = refl
 
   -- the result of a function where a target wants it
   pub dest_good : (k : Option Kind) (v : Option VarRef) (target : Meaning) → GoodResult k v → GoodMeaning g V D target

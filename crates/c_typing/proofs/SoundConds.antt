@@ -57,12 +57,7 @@ use Rattle.c_typing.proofs.SoundCalls.{GoodFuncs, calling_typed, dest_good, no_d
 
 wanted-target : (m : Meaning) → wanted_struct (want_of_target m) ≡ struct_at m
 wanted-target (meaning.Pointer p to) = refl
-wanted-target (meaning.Datum d) = refl
-wanted-target (meaning.Known k) = refl
-wanted-target meaning.Zero = refl
-wanted-target meaning.Null = refl
-wanted-target meaning.Call = refl
-wanted-target meaning.Broken = refl
+wanted-target _ = refl
 
 differ-none : (t : Option ℕ) → differ t None ≡ false
 differ-none None = refl
@@ -166,13 +161,9 @@ module _ (g : Globals) (V : List VarDef) (D : ℕ) (F : List Func) (H : Option �
         → IsClean g (right_step g scope (want_of_target target) o y)
         → Typed (stored g scope (call_in y) (dest_of target) (assignment g scope target (rhs.Operand o)) line ∷ [])
         spot
-    operand_assigned target o (operand.Path p) line spot is good c = plain_assigned target o line spot good c
     operand_assigned target o (operand.Call x) line spot is good c =
         call_assigned target o x line spot is good c (called_number g (out-Call x).name.text) refl
-    operand_assigned target o (operand.Number x) line spot is good c = plain_assigned target o line spot good c
-    operand_assigned target o (operand.Null at) line spot is good c = plain_assigned target o line spot good c
-    operand_assigned target o (operand.True at) line spot is good c = plain_assigned target o line spot good c
-    operand_assigned target o (operand.False at) line spot is good c = plain_assigned target o line spot good c
+    operand_assigned target o _ line spot is good c = plain_assigned target o line spot good c
 
     pub assign_typed : (target : Meaning) (r : Rhs) (line : ℕ) (spot : Spot) → GoodMeaning g V D target
         → IsClean g (rhs_sites g scope (want_of_target target) r)

@@ -69,11 +69,8 @@ values_small n [] = tt
 values_small n (x ∷ xs) = (datum_small n, values_small (suc n) xs)
 
 item_values : (i : Item) → Every GoodValue (values_in i)
-item_values (item.Struct at name fields) = tt
 item_values (item.Enum at name values) = values_small 0 values
-item_values (item.Proto outer head) = tt
-item_values (item.Function head body) = tt
-item_values (item.Declare d) = tt
+item_values _ = tt
 
 all_values : (is : List Item) → Every GoodValue (each_of values_in is)
 all_values [] = tt
@@ -109,10 +106,7 @@ module _ (g : Globals) where
   item_clean : (s : Seen) (i : Item) (scope : Scope) → IsClean g (item_sites g s i scope)
       → Every DefinitionClean (structs_in i)
   item_clean s (item.Struct at name fields) scope c = struct_clean s name fields c
-  item_clean s (item.Enum at name values) scope c = tt
-  item_clean s (item.Proto outer head) scope c = tt
-  item_clean s (item.Function head body) scope c = tt
-  item_clean s (item.Declare d) scope c = tt
+  item_clean s _ scope c = tt
 
   items_clean : (s : Seen) (is : List Item) (scope : Scope) → IsClean g (items_sites g s is scope)
       → Every DefinitionClean (each_of structs_in is)

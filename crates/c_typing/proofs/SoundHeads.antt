@@ -77,13 +77,10 @@ module _ (g : Globals) (V : List VarDef) (D : ℕ) where
   back_head h scope w = back_params (params_of h.params) (opened (past_result g h scope)) w
 
   pub back_item : (i : Item) (scope : Scope) → Within g V D (past_item g i scope) → Within g V D scope
-  back_item (item.Struct at name fields) scope w = w
-  back_item (item.Enum at name values) scope w = w
-  back_item (item.Proto out h) scope w = w
   back_item (item.Function h b) scope w =
       back_result (result_of g h) h.name.text (begun g h scope)
       (back_head h scope ((block_keeps g V D b (past_head g h scope)).1.0 w))
-  back_item (item.Declare d) scope w = w
+  back_item _ scope w = w
 
   pub back_items : (is : List Item) (scope : Scope) → Within g V D (past_items g is scope) → Within g V D scope
   back_items [] scope w = w
