@@ -25,11 +25,8 @@ DecidedAt step (BadChoice index) = Unit {0}
 DecidedAt step StillRunning = ⊥
 
 pub decided_over : (step : ℕ) (o : Outcome) → DecidedAt step o → IsOver o
-decided_over step (Ended n) h = tt
-decided_over step (Fault kind line n) h = tt
-decided_over step (Starved n) h = tt
-decided_over step (BadChoice index) h = tt
 decided_over step StillRunning h = h
+decided_over step _ h = tt
 
 -- a function of the rest of a run that ignores it
 pub record Decides (step : ℕ) (f : Rest → Outcome) : Type 0 where
@@ -98,16 +95,7 @@ module _ (shapes : List Shape) (mode : MallocMode) (line : ℕ → ℕ) where
   over_at_once : (is : Items) (m step : ℕ) (s : Store) (cs : List ℕ) (used : ℕ) (next : Rest) → IsOver (at_end is step)
       → advance shapes mode line at_end is next step s cs used ≡ at_end is step
   over_at_once Done m step s cs used next over = refl
-  over_at_once (Do a k is) m step s cs used next over = absurd over
-  over_at_once (Close ps ds k is) m step s cs used next over = absurd over
-  over_at_once (If c x y is) m step s cs used next over = absurd over
-  over_at_once (Loop c n b is) m step s cs used next over = absurd over
-  over_at_once (Again c n b is) m step s cs used next over = absurd over
-  over_at_once (DoLoop c b is) m step s cs used next over = absurd over
-  over_at_once (DoAgain c b is) m step s cs used next over = absurd over
-  over_at_once (Enter vs ws k is) m step s cs used next over = absurd over
-  over_at_once (Leave v vs a k is) m step s cs used next over = absurd over
-  over_at_once (Exit v vs d k is) m step s cs used next over = absurd over
+  over_at_once _ m step s cs used next over = absurd over
 
   pub stays_over : (n m step : ℕ) (is : Items) (s : Store) (cs : List ℕ) (used : ℕ) → n ≤ m
       → IsOver (go shapes mode line at_end n step is s cs used) → go shapes mode line at_end m step is s cs used
@@ -144,16 +132,7 @@ module _ (shapes : List Shape) (mode : MallocMode) (line : ℕ → ℕ) where
 
   still_runs : (is : Items) (step : ℕ) (kind : Kind) (at met : ℕ) → at_end is step ≡ Fault kind at met → ⊥
   still_runs Done step kind at met e = cc
-  still_runs (Do a m is) step kind at met e = cc
-  still_runs (Close ps ds m is) step kind at met e = cc
-  still_runs (If c x y is) step kind at met e = cc
-  still_runs (Loop c n b is) step kind at met e = cc
-  still_runs (Again c n b is) step kind at met e = cc
-  still_runs (DoLoop c b is) step kind at met e = cc
-  still_runs (DoAgain c b is) step kind at met e = cc
-  still_runs (Enter vs ws m is) step kind at met e = cc
-  still_runs (Leave v vs a m is) step kind at met e = cc
-  still_runs (Exit v vs d m is) step kind at met e = cc
+  still_runs _ step kind at met e = cc
 
   decided_step : (step : ℕ) (o : Outcome) (kind : Kind) (at met : ℕ) → DecidedAt step o → o ≡ Fault kind at met
       → met ≡ step

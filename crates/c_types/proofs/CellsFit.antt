@@ -6,7 +6,7 @@ use Rattle.std.proofs.lemmas.Bool.{eqb-true, eq-eqb}
 use Rattle.std.proofs.lemmas.Option.{slice_get_within, get_or_from_slice_get}
 use Rattle.fore_base.specs.declared.shape.Shape.{Shape}
 use Rattle.fore_base.specs.declared.store.Value.{Value}
-use Rattle.fore_base.specs.declared.store.Value.TheVariants.{Null, Uninit, Dangling, Cell}
+use Rattle.fore_base.specs.declared.store.Value.TheVariants.{Uninit, Dangling, Cell}
 use Rattle.fore_base.specs.declared.store.Datum.{Datum}
 use Rattle.fore_base.specs.declared.store.CellRec.{CellRec}
 use Rattle.fore_base.specs.Lists.{Every}
@@ -42,10 +42,8 @@ length_set_each xs (n ∷ ns) x = length_set_each (slice_set xs n x) ns x ∙ le
 -- Values
 
 names : (cs : List CellRec) (t : ℕ) (v : Value) → PointsTo cs t v → NamesCell cs v
-names cs t Null points = tt
-names cs t Uninit points = tt
-names cs t Dangling points = tt
 names cs t (Cell n) points = cell_of_is cs n t points
+names cs t _ points = tt
 
 pub names_each : (cs : List CellRec) (ts : List ℕ) (vs : List Value) → PointsToEach cs ts vs → Every (NamesCell cs) vs
 names_each cs [] [] points = tt
@@ -79,14 +77,12 @@ unset_points cs [] = tt
 unset_points cs (t ∷ ts) = (tt, unset_points cs ts)
 
 dangle_points : (n t : ℕ) (cs : List CellRec) (v : Value) → PointsTo cs t v → PointsTo (without n cs) t (dangle n v)
-dangle_points n t cs Null points = tt
-dangle_points n t cs Uninit points = tt
-dangle_points n t cs Dangling points = tt
 dangle_points n t cs (Cell m) points = here (nat_eq m n) refl
   where
     here : (b : Bool) → nat_eq m n ≡ b → PointsTo (without n cs) t (if b then Dangling else Cell m)
     here true is = tt
     here false is = without_cell_of n m t cs is points
+dangle_points n t cs _ points = tt
 
 pub dangle_points_each : (n : ℕ) (cs : List CellRec) (ts : List ℕ) (vs : List Value) → PointsToEach cs ts vs
     → PointsToEach (without n cs) ts (map (dangle n) vs)
@@ -100,10 +96,8 @@ dangle_points_each n cs (t ∷ ts) (v ∷ vs) points =
 
 module _ (cs ds : List CellRec) (kept : (m t : ℕ) → HasCellOf cs m t → HasCellOf ds m t) where
   pub points_moved : (t : ℕ) (v : Value) → PointsTo cs t v → PointsTo ds t v
-  points_moved t Null points = tt
-  points_moved t Uninit points = tt
-  points_moved t Dangling points = tt
   points_moved t (Cell n) points = kept n t points
+  points_moved t _ points = tt
 
   pub each_moved : (ts : List ℕ) (vs : List Value) → PointsToEach cs ts vs → PointsToEach ds ts vs
   each_moved [] [] points = tt

@@ -7,7 +7,7 @@ use Rattle.c_types.specs.declared.mode.MallocMode.{MallocMode}
 use Rattle.c_types.specs.declared.outcome.Outcome.{Outcome}
 use Rattle.c_types.specs.declared.outcome.Outcome.TheVariants.{Ended, Starved, BadChoice, StillRunning}
 use Rattle.c_types.specs.Program.{Program}
-use Rattle.c_types.specs.Control.{Items, Done, Do, Close, If, Loop, Again, DoLoop, DoAgain, Enter, Leave, Exit, opened}
+use Rattle.c_types.specs.Control.{Items, Done, opened}
 use Rattle.c_types.specs.Control.{start_of}
 use Rattle.c_types.specs.Steps.{Turn, Goes, Stops, Faults, turn_of, takes, mark_of}
 use Rattle.c_types.specs.Runs.{supply, after_turn, unless_done, at_end, go, run, own_line, empty_store}
@@ -22,16 +22,7 @@ pub record IsOpen (is : Items) : Type 0 where
 
 pub end_or_open : (is : Items) → IsAtEnd is ⊎ IsOpen is
 end_or_open Done = inl (record { ends = λ step o. refl })
-end_or_open (Do a m is) = inr (record { goes = λ step o. refl })
-end_or_open (Close ps ds m is) = inr (record { goes = λ step o. refl })
-end_or_open (If c x y is) = inr (record { goes = λ step o. refl })
-end_or_open (Loop c n b is) = inr (record { goes = λ step o. refl })
-end_or_open (Again c n b is) = inr (record { goes = λ step o. refl })
-end_or_open (DoLoop c b is) = inr (record { goes = λ step o. refl })
-end_or_open (DoAgain c b is) = inr (record { goes = λ step o. refl })
-end_or_open (Enter vs ws m is) = inr (record { goes = λ step o. refl })
-end_or_open (Leave v vs a m is) = inr (record { goes = λ step o. refl })
-end_or_open (Exit v vs d m is) = inr (record { goes = λ step o. refl })
+end_or_open _ = inr (record { goes = λ step o. refl })
 
 -- the rest of a run, given a choice, the choices that are left, and how many were used
 abbrev Given : Type 0

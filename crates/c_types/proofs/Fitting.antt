@@ -164,10 +164,8 @@ module _ (p : Program) where
 
   followed_gives : (cs : List CellRec) (t : ℕ) (v : Value) → PointsTo cs t v
       → Gives (λ n. HasCellOf cs n t) (followed v)
-  followed_gives cs t Null points = tt
-  followed_gives cs t Uninit points = tt
-  followed_gives cs t Dangling points = tt
   followed_gives cs t (Cell n) points = points
+  followed_gives cs t _ points = tt
 
   load_gives : (s : Store) (t : ℕ) (v : Value) (f k : ℕ) → Sound s → PointsTo s.cells t v
       → IsAt (targets_of p.shapes.structs t) f k → Gives (PointsTo s.cells k) (load s v f)
@@ -278,10 +276,8 @@ module _ (p : Program) where
       }
 
   pub store_datum_sound : (s : Store) (v : Value) (f : ℕ) (d : Datum) → Sound s → Gives Sound (store_datum s v f d)
-  store_datum_sound s Null f d sound = tt
-  store_datum_sound s Uninit f d sound = tt
-  store_datum_sound s Dangling f d sound = tt
   store_datum_sound s (Cell n) f d sound = datum_sound s n f d sound
+  store_datum_sound s _ f d sound = tt
 
   -- Variables die
 

@@ -24,8 +24,7 @@ use Rattle.c_types.specs.declared.program.DataPath.TheVariants.{Var as DataVar, 
 use Rattle.c_types.specs.declared.program.PtrRhs.{PtrRhs}
 use Rattle.c_types.specs.declared.program.PtrRhs.TheVariants.{Path as RhsPath, Null as RhsNull, New as RhsNew}
 use Rattle.c_types.specs.declared.program.Act.{Act}
-use Rattle.c_types.specs.declared.program.Act.TheVariants.{SetPtr, SetData, Free, Error, Halt, Return, Break, Continue}
-use Rattle.c_types.specs.declared.program.Act.TheVariants.{Leave as LeaveAct}
+use Rattle.c_types.specs.declared.program.Act.TheVariants.{SetPtr, SetData, Free, Return, Break, Continue}
 use Rattle.c_types.specs.declared.program.PtrOp.{PtrOp}
 use Rattle.c_types.specs.declared.program.PtrOp.TheVariants.{Path as OpPath, Null as OpNull}
 use Rattle.c_types.specs.declared.program.VarRef.{VarRef}
@@ -34,8 +33,8 @@ use Rattle.c_types.specs.declared.program.Arg.{Arg}
 use Rattle.c_types.specs.declared.program.Arg.TheVariants.{Ptr as PtrArg, Data as DataArg}
 use Rattle.c_types.specs.declared.program.Dest.{Dest}
 use Rattle.c_types.specs.declared.program.Dest.TheVariants.{Ptr as PtrDest, Data as DataDest}
-use Rattle.c_types.specs.Control.{Items, Done, Do, Close, If, Loop, Again, DoLoop, DoAgain, Enter, Leave, Exit, Ask}
-use Rattle.c_types.specs.Control.{Not, Both, Either, closed_ptrs, closed_datums, after_again, from_again, from_exit}
+use Rattle.c_types.specs.Control.{Items, Do, Close, If, Enter, Leave, Exit, Ask}
+use Rattle.c_types.specs.Control.{closed_ptrs, closed_datums, after_again, from_again, from_exit}
 use Rattle.c_types.specs.Control.{◌then◌}
 use Rattle.c_types.specs.Control.{ptr_vars, datum_vars, with_result}
 use Rattle.c_types.specs.Steps.{Goes, Faults, read, read_data_rhs, look_at, atom_of, write_path, write_data, assign}
@@ -199,10 +198,8 @@ field_told s m f reached n e = field_told_in s m f n reached s.cells (λ c h. h)
 
 walk_told : (s : Store) (fs : List ℕ) (v w : Value) → IsTold s v → walk s v fs ≡ Ok w → IsTold s w
 walk_told s [] v w told e = let same : v ≡ w = cc in subst (IsTold s) same told
-walk_told s (f ∷ fs) Null w told e = cc
-walk_told s (f ∷ fs) Uninit w told e = cc
-walk_told s (f ∷ fs) Dangling w told e = cc
 walk_told s (f ∷ fs) (Cell m) w told e = walk_told s fs (field_in s.cells m f) w (field_told s m f (told m refl)) e
+walk_told s _ _ w told e = cc
 
 pub read_told : (s : Store) (p : Path) (v : Value) → read s p ≡ Ok v → IsTold s v
 read_told s p v e = walk_told s p.fields (var_of s p.var) v (var_told s p.var) e
@@ -214,26 +211,19 @@ AddsAll s r = (t : Store) → r ≡ Ok t → Adds s t
 
 write_from_adds : (s : Store) (fs : List ℕ) (v : Value) (f : ℕ) (w : Value) → IsTold s w
     → AddsAll s (write_from s v f fs w)
-write_from_adds s [] Null f w told t e = cc
-write_from_adds s [] Uninit f w told t e = cc
-write_from_adds s [] Dangling f w told t e = cc
 write_from_adds s [] (Cell n) f w told t e = let same : record s { cells = with_field s.cells n f w } ≡ t = cc in
     subst (Adds s) same (field_adds s n f w told)
-write_from_adds s (g ∷ gs) Null f w told t e = cc
-write_from_adds s (g ∷ gs) Uninit f w told t e = cc
-write_from_adds s (g ∷ gs) Dangling f w told t e = cc
 write_from_adds s (g ∷ gs) (Cell n) f w told t e = write_from_adds s gs (field_in s.cells n f) g w told t e
+write_from_adds s _ _ f w told t e = cc
 
 pub write_path_adds : (s : Store) (x : ℕ) (fs : List ℕ) (w : Value) → IsTold s w → AddsAll s (write_path s x fs w)
 write_path_adds s x [] w told t e = let same : set_var s x w ≡ t = cc in subst (Adds s) same (set_var_adds s x w told)
 write_path_adds s x (f ∷ fs) w told t e = write_from_adds s fs (var_of s x) f w told t e
 
 store_datum_adds : (s : Store) (v : Value) (f : ℕ) (d : Datum) → AddsAll s (store_datum s v f d)
-store_datum_adds s Null f d t e = cc
-store_datum_adds s Uninit f d t e = cc
-store_datum_adds s Dangling f d t e = cc
 store_datum_adds s (Cell n) f d t e = let same : record s { cells = with_datum s.cells n f d } ≡ t = cc in
     subst (Adds s) same (datum_adds s n f d)
+store_datum_adds s _ f d t e = cc
 
 onward_adds : {A : Type 0} (s : Store) (r : Result A Fault) (next : A → Result Store Fault)
     → ((a : A) → r ≡ Ok a → AddsAll s (next a)) → AddsAll s (onward r next)
@@ -360,14 +350,12 @@ module _ (shapes : List Shape) (mode : MallocMode) where
   act_leaks (Free p) is js s t x none leak e =
       settled_leaks s (free_path s p) is js t
       (onward_adds s (read s p) (freed s) (λ v same. freed_adds s v (ap got_cell (sym same) ∙ none))) leak e
-  act_leaks Error is js s t x none leak e = cc
-  act_leaks Halt is js s t x none leak e = cc
-  act_leaks (LeaveAct f value) is js s t x none leak e = cc
   act_leaks (Return operand) is js s t x none leak e = finished_stops (look_at s operand) js t e
   act_leaks Break is js s t x none leak e =
       leaked_settles _ (after_again is) js t (added_leaks s _ (kill_adds s (closed_ptrs is) (closed_datums is)) leak) e
   act_leaks Continue is js s t x none leak e =
       leaked_settles _ (from_again is) js t (added_leaks s _ (kill_adds s (closed_ptrs is) (closed_datums is)) leak) e
+  act_leaks _ is js s t x none leak e = cc
 
   test_leaks : (r : Result Bool Fault) (x y is js : Items) (s t : Store) → leaks s ≡ true → test_turn r x y is s
       ≡ Goes js t → ⊥
@@ -379,18 +367,10 @@ module _ (shapes : List Shape) (mode : MallocMode) where
   pub turn_leaks : (is js : Items) (s t : Store) (x : ℕ) → loses is s ≡ false → leaks s ≡ true
       → turn_of shapes mode is s x
       ≡ Goes js t → ⊥
-  turn_leaks Done js s t x none leak e = cc
   turn_leaks (Do a m is) js s t x none leak e = act_leaks a is js s t x none leak e
   turn_leaks (Close ps ds m is) js s t x none leak e =
       leaked_settles _ is js t (added_leaks s _ (kill_adds s ps ds) leak) e
   turn_leaks (If (Ask a m) y n is) js s t x none leak e = test_leaks (atom_of a s x) y n is js s t leak e
-  turn_leaks (If (Not c) y n is) js s t x none leak e = cc
-  turn_leaks (If (Both c d) y n is) js s t x none leak e = cc
-  turn_leaks (If (Either c d) y n is) js s t x none leak e = cc
-  turn_leaks (Loop c n b is) js s t x none leak e = cc
-  turn_leaks (Again c n b is) js s t x none leak e = cc
-  turn_leaks (DoLoop c b is) js s t x none leak e = cc
-  turn_leaks (DoAgain c b is) js s t x none leak e = cc
   turn_leaks (Enter vs ws m is) js s t x none leak e =
       settled_leaks s (enter s vs ws) is js t (all_given s (enter s vs ws) (enter_adds s s vs ws (adds_none s))) leak e
   turn_leaks (Leave v vs a m is) js s t x none leak e =
@@ -400,3 +380,4 @@ module _ (shapes : List Shape) (mode : MallocMode) where
       settled_leaks s (exit s v vs d) is js t
       (all_given s (exit s v vs d)
       (without_adds s (with_result v vs) (hand_over s v d) (hand_over_adds s v d))) leak e
+  turn_leaks _ js s t x none leak e = cc

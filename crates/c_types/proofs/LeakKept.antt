@@ -2,7 +2,7 @@
 use Rattle.std.proofs.Common.{◌≡◌, inl, inr, ℕ, zero, suc, Bool, true, false, ◌||◌, nat_eq, if◌then◌else◌, Ok, List, []}
 use Rattle.std.proofs.Common.{◌∷◌, slice_set, slice_index_or, refl, sym, ap, ◌∙◌, subst, true≢false}
 use Rattle.fore_base.specs.declared.store.Value.{Value}
-use Rattle.fore_base.specs.declared.store.Value.TheVariants.{Null, Uninit, Dangling, Cell}
+use Rattle.fore_base.specs.declared.store.Value.TheVariants.{Uninit, Cell}
 use Rattle.fore_base.specs.declared.store.Datum.{Datum}
 use Rattle.fore_base.specs.declared.store.CellRec.{CellRec}
 use Rattle.fore_base.specs.declared.store.Store.{Store}
@@ -101,13 +101,11 @@ or_none true b e = absurd (true≢false e)
 or_none false b e = (refl, e)
 
 -- what holds no cell holds none after another variable has died
-unset_at : (vs : List Value) (x y : ℕ) → is_cell (slice_index_or vs y Uninit) ≡ false
+pub unset_at : (vs : List Value) (x y : ℕ) → is_cell (slice_index_or vs y Uninit) ≡ false
     → is_cell (slice_index_or (slice_set vs x Uninit) y Uninit) ≡ false
-unset_at [] x y e = e
 unset_at (w ∷ vs) zero zero e = refl
-unset_at (w ∷ vs) zero (suc y) e = e
-unset_at (w ∷ vs) (suc x) zero e = e
 unset_at (w ∷ vs) (suc x) (suc y) e = unset_at vs x y e
+unset_at _ _ _ e = e
 
 unset_each : (vs : List Value) (x : ℕ) (ys : List ℕ) → hold_cell vs ys ≡ false → hold_cell (slice_set vs x Uninit) ys
     ≡ false
@@ -160,47 +158,33 @@ pub datum_keeps : (s : Store) (n f : ℕ) (d : Datum) → Keeps s (record s { ce
 datum_keeps s n f d = record { vars = λ m h. h; cells = with_datum_kept n f d s.cells }
 
 pub store_datum_keeps : (s t : Store) (v : Value) (f : ℕ) (d : Datum) → store_datum s v f d ≡ Ok t → Keeps s t
-store_datum_keeps s t Null f d e = cc
-store_datum_keeps s t Uninit f d e = cc
-store_datum_keeps s t Dangling f d e = cc
 store_datum_keeps s t (Cell n) f d e = let same : record s { cells = with_datum s.cells n f d } ≡ t = cc in
     subst (Keeps s) same (datum_keeps s n f d)
+store_datum_keeps s t _ f d e = cc
 
 pub store_datum_vars : (s t : Store) (v : Value) (f : ℕ) (d : Datum) → store_datum s v f d ≡ Ok t → t.vars ≡ s.vars
-store_datum_vars s t Null f d e = cc
-store_datum_vars s t Uninit f d e = cc
-store_datum_vars s t Dangling f d e = cc
 store_datum_vars s t (Cell n) f d e = let same : record s { cells = with_datum s.cells n f d } ≡ t = cc in
     ap (λ (u : Store). u.vars) (sym same)
+store_datum_vars s t _ f d e = cc
 
 -- Paths: what stood at the end of the path was no cell
 
 pub write_from_vars : (s t : Store) (fs : List ℕ) (v : Value) (f : ℕ) (new : Value) → write_from s v f fs new ≡ Ok t
     → t.vars ≡ s.vars
-write_from_vars s t [] Null f new e = cc
-write_from_vars s t [] Uninit f new e = cc
-write_from_vars s t [] Dangling f new e = cc
 write_from_vars s t [] (Cell n) f new e = let same : record s { cells = with_field s.cells n f new } ≡ t = cc in
     ap (λ (u : Store). u.vars) (sym same)
-write_from_vars s t (g ∷ gs) Null f new e = cc
-write_from_vars s t (g ∷ gs) Uninit f new e = cc
-write_from_vars s t (g ∷ gs) Dangling f new e = cc
 write_from_vars s t (g ∷ gs) (Cell n) f new e = write_from_vars s t gs (field_in s.cells n f) g new e
+write_from_vars s t _ _ f new e = cc
 
 pub write_from_keeps : (s t : Store) (fs : List ℕ) (v : Value) (f : ℕ) (old new : Value) → walk s v (f ∷ fs) ≡ Ok old
     → is_cell old ≡ false → write_from s v f fs new ≡ Ok t → Keeps s t
-write_from_keeps s t [] Null f old new was none e = cc
-write_from_keeps s t [] Uninit f old new was none e = cc
-write_from_keeps s t [] Dangling f old new was none e = cc
 write_from_keeps s t [] (Cell n) f old new was none e =
     let is : field_in s.cells n f ≡ old = cc in
     let same : record s { cells = with_field s.cells n f new } ≡ t = cc in
     subst (Keeps s) same (field_keeps s n f new (ap is_cell is ∙ none))
-write_from_keeps s t (g ∷ gs) Null f old new was none e = cc
-write_from_keeps s t (g ∷ gs) Uninit f old new was none e = cc
-write_from_keeps s t (g ∷ gs) Dangling f old new was none e = cc
 write_from_keeps s t (g ∷ gs) (Cell n) f old new was none e =
     write_from_keeps s t gs (field_in s.cells n f) g old new was none e
+write_from_keeps s t _ _ f old new was none e = cc
 
 pub write_path_keeps : (s t : Store) (x : ℕ) (fs : List ℕ) (old new : Value) → walk s (var_of s x) fs ≡ Ok old
     → is_cell old ≡ false → write_path s x fs new ≡ Ok t → Keeps s t

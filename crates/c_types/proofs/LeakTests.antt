@@ -29,16 +29,15 @@ use Rattle.c_types.specs.declared.program.Atom.{Atom}
 use Rattle.c_types.specs.declared.program.Atom.TheVariants.{Choice as ChoiceAtom, Known as KnownAtom, Ptr as PtrAtom}
 use Rattle.c_types.specs.declared.program.Atom.TheVariants.{Data as DataAtom}
 use Rattle.c_types.specs.declared.program.Act.{Act}
-use Rattle.c_types.specs.declared.program.Act.TheVariants.{SetPtr, SetData, Free, Error, Halt, Return, Break, Continue}
-use Rattle.c_types.specs.declared.program.Act.TheVariants.{Leave as LeaveAct}
+use Rattle.c_types.specs.declared.program.Act.TheVariants.{SetPtr, SetData, Free, Return, Break, Continue}
 use Rattle.c_types.specs.declared.program.VarRef.{VarRef}
 use Rattle.c_types.specs.declared.program.VarRef.TheVariants.{Ptr as PtrVar, Data as DatumVar}
 use Rattle.c_types.specs.declared.program.Arg.{Arg}
 use Rattle.c_types.specs.declared.program.Arg.TheVariants.{Ptr as PtrArg, Data as DataArg}
 use Rattle.c_types.specs.declared.program.Dest.{Dest}
 use Rattle.c_types.specs.declared.program.Dest.TheVariants.{Ptr as PtrDest, Data as DataDest}
-use Rattle.c_types.specs.Control.{Items, Done, Do, Close, If, Loop, Again, DoLoop, DoAgain, Enter, Leave, Exit, Ask}
-use Rattle.c_types.specs.Control.{Not, Both, Either, closed_ptrs, closed_datums, after_again, from_again, from_exit}
+use Rattle.c_types.specs.Control.{Items, Do, Close, If, Enter, Leave, Exit, Ask}
+use Rattle.c_types.specs.Control.{closed_ptrs, closed_datums, after_again, from_again, from_exit}
 use Rattle.c_types.specs.Control.{◌then◌}
 use Rattle.c_types.specs.Control.{with_result}
 use Rattle.c_types.specs.Steps.{Goes, Stops, Faults, read, read_data, read_op, read_data_op, read_data_rhs, look_at}
@@ -68,27 +67,21 @@ onward_clean (Ok a) next h rest = rest a
 onward_clean (Err k) next h rest = h
 
 followed_clean : (v : Value) → NoLeak (followed v)
-followed_clean Null = λ e. cc
-followed_clean Uninit = λ e. cc
-followed_clean Dangling = λ e. cc
 followed_clean (Cell n) = tt
+followed_clean _ = λ e. cc
 
 walk_clean : (s : Store) (v : Value) (fs : List ℕ) → NoLeak (walk s v fs)
 walk_clean s v [] = tt
-walk_clean s Null (f ∷ fs) = λ e. cc
-walk_clean s Uninit (f ∷ fs) = λ e. cc
-walk_clean s Dangling (f ∷ fs) = λ e. cc
 walk_clean s (Cell n) (f ∷ fs) = walk_clean s (field_in s.cells n f) fs
+walk_clean s _ _ = λ e. cc
 
 store_at_clean : (s : Store) (v : Value) (f : ℕ) (w : Value) → NoLeak (store_at s v f w)
 store_at_clean s v f w = onward_clean (followed v) _ (followed_clean v) (λ n. tt)
 
 write_from_clean : (s : Store) (v : Value) (f : ℕ) (fs : List ℕ) (w : Value) → NoLeak (write_from s v f fs w)
 write_from_clean s v f [] w = store_at_clean s v f w
-write_from_clean s Null f (g ∷ gs) w = λ e. cc
-write_from_clean s Uninit f (g ∷ gs) w = λ e. cc
-write_from_clean s Dangling f (g ∷ gs) w = λ e. cc
 write_from_clean s (Cell n) f (g ∷ gs) w = write_from_clean s (field_in s.cells n f) g gs w
+write_from_clean s _ f _ w = λ e. cc
 
 write_path_clean : (s : Store) (x : ℕ) (fs : List ℕ) (v : Value) → NoLeak (write_path s x fs v)
 write_path_clean s x [] v = tt
@@ -112,16 +105,11 @@ read_data_op_clean s (DataOpPath p) = read_data_clean s p
 read_data_op_clean s (DataOpKnown k) = tt
 
 same_values_clean : (v w : Value) → NoLeak (same_values v w)
-same_values_clean Uninit w = λ e. cc
-same_values_clean Dangling w = λ e. cc
-same_values_clean Null Uninit = λ e. cc
-same_values_clean Null Dangling = λ e. cc
 same_values_clean Null Null = tt
 same_values_clean Null (Cell m) = tt
-same_values_clean (Cell n) Uninit = λ e. cc
-same_values_clean (Cell n) Dangling = λ e. cc
 same_values_clean (Cell n) Null = tt
 same_values_clean (Cell n) (Cell m) = tt
+same_values_clean _ _ = λ e. cc
 
 same_datums_clean : (d e : Datum) → NoLeak (same_datums d e)
 same_datums_clean Undefined e = λ h. cc
@@ -169,14 +157,9 @@ KeepsAll s r = (t : Store) → r ≡ Ok t → Keeps s t
 -- what was written at the end of a path, over what was no cell; where the path meets a fault nothing is written
 walk_wrote : (s : Store) (t : Store) (fs : List ℕ) (v : Value) (f : ℕ) (w : Value) → write_from s v f fs w ≡ Ok t
     → (old : Value) × (walk s v (f ∷ fs) ≡ Ok old)
-walk_wrote s t [] Null f w e = cc
-walk_wrote s t [] Uninit f w e = cc
-walk_wrote s t [] Dangling f w e = cc
 walk_wrote s t [] (Cell n) f w e = (field_in s.cells n f, refl)
-walk_wrote s t (g ∷ gs) Null f w e = cc
-walk_wrote s t (g ∷ gs) Uninit f w e = cc
-walk_wrote s t (g ∷ gs) Dangling f w e = cc
 walk_wrote s t (g ∷ gs) (Cell n) f w e = walk_wrote s t gs (field_in s.cells n f) g w e
+walk_wrote s t _ _ f w e = cc
 
 path_wrote : (s : Store) (t : Store) (x : ℕ) (fs : List ℕ) (w : Value) → write_path s x fs w ≡ Ok t → (old : Value)
     × (walk s (var_of s x) fs ≡ Ok old)
@@ -217,7 +200,7 @@ freed_keeps s (Cell n) none t e = absurd (true≢false none)
 free_keeps : (s : Store) (p : Path) → got_cell (read s p) ≡ false → KeepsAll s (free_path s p)
 free_keeps s p none = onward_keeps s (read s p) (freed s) (λ v is. freed_keeps s v (ap got_cell (sym is) ∙ none))
 
-look_keeps : (s : Store) (p : Option DataPath) (t : Store) → look_at s p ≡ Ok t → s ≡ t
+pub look_keeps : (s : Store) (p : Option DataPath) (t : Store) → look_at s p ≡ Ok t → s ≡ t
 look_keeps s None t e = cc
 look_keeps s (Some p) t e = here (read_data s p) e
   where
@@ -354,9 +337,6 @@ module _ (shapes : List Shape) (mode : MallocMode) where
   act_sound (Free p) is s x none sound e =
       settled_sound s (free_path s p) is (onward_clean (read s p) (freed s) (read_clean s p) (λ v. freed_clean s v))
       (free_keeps s p none) sound e
-  act_sound Error is s x none sound e = cc
-  act_sound Halt is s x none sound e = cc
-  act_sound (LeaveAct f value) is s x none sound e = cc
   act_sound (Return operand) is s x none sound e =
       finished_sound s (look_at s operand) (look_at_clean s operand)
       (λ t same. subst (λ (u : Store). leaks (all_dead u) ≡ false) (look_keeps s operand t same)
@@ -365,6 +345,7 @@ module _ (shapes : List Shape) (mode : MallocMode) where
       sound_settles _ (after_again is) (kept_sound s _ (kill_keeps s (closed_ptrs is) (closed_datums is) none) sound) e
   act_sound Continue is s x none sound e =
       sound_settles _ (from_again is) (kept_sound s _ (kill_keeps s (closed_ptrs is) (closed_datums is) none) sound) e
+  act_sound _ is s x none sound e = cc
 
   test_sound : (r : Result Bool Fault) (x y is : Items) (s : Store) → NoLeak r → leaks s ≡ false → test_turn r x y is s
       ≡ Faults Leak → ⊥
@@ -375,17 +356,9 @@ module _ (shapes : List Shape) (mode : MallocMode) where
   -- where no cell had leaked, none has leaked after the step
   pub turn_sound : (is : Items) (s : Store) (x : ℕ) → loses is s ≡ false → leaks s ≡ false → turn_of shapes mode is s x
       ≡ Faults Leak → ⊥
-  turn_sound Done s x none sound e = cc
   turn_sound (Do a m is) s x none sound e = act_sound a is s x none sound e
   turn_sound (Close ps ds m is) s x none sound e = sound_settles _ is (kept_sound s _ (kill_keeps s ps ds none) sound) e
   turn_sound (If (Ask a m) y n is) s x none sound e = test_sound (atom_of a s x) y n is s (atom_clean a s x) sound e
-  turn_sound (If (Not c) y n is) s x none sound e = cc
-  turn_sound (If (Both c d) y n is) s x none sound e = cc
-  turn_sound (If (Either c d) y n is) s x none sound e = cc
-  turn_sound (Loop c n b is) s x none sound e = cc
-  turn_sound (Again c n b is) s x none sound e = cc
-  turn_sound (DoLoop c b is) s x none sound e = cc
-  turn_sound (DoAgain c b is) s x none sound e = cc
   turn_sound (Enter vs ws m is) s x none sound e =
       settled_sound s (enter s vs ws) is (enter_clean s vs ws)
       (held_keeps s (enter s vs ws) (enter_holds s s vs ws none (holds_same s))) sound e
@@ -395,3 +368,4 @@ module _ (shapes : List Shape) (mode : MallocMode) where
   turn_sound (Exit v vs d m is) s x none sound e =
       settled_sound s (exit s v vs d) is (exit_clean s v vs d)
       (held_keeps s (exit s v vs d) (exit_holds s v vs d none)) sound e
+  turn_sound _ s x none sound e = cc

@@ -15,8 +15,7 @@ use Rattle.c_types.specs.declared.program.DataPath.TheVariants.{Var as DataVar, 
 use Rattle.c_types.specs.declared.program.PtrRhs.{PtrRhs}
 use Rattle.c_types.specs.declared.program.PtrRhs.TheVariants.{Path as RhsPath, Null as RhsNull, New as RhsNew}
 use Rattle.c_types.specs.declared.program.Act.{Act}
-use Rattle.c_types.specs.declared.program.Act.TheVariants.{SetPtr, SetData, Free, Error, Halt, Return, Break, Continue}
-use Rattle.c_types.specs.declared.program.Act.TheVariants.{Leave as LeaveAct}
+use Rattle.c_types.specs.declared.program.Act.TheVariants.{SetPtr, SetData, Free, Return, Break, Continue}
 use Rattle.c_types.specs.declared.program.VarRef.{VarRef}
 use Rattle.c_types.specs.declared.program.VarRef.TheVariants.{Ptr as PtrVar, Data as DatumVar}
 use Rattle.c_types.specs.declared.program.Arg.{Arg}
@@ -26,8 +25,8 @@ use Rattle.c_types.specs.declared.program.Dest.{Dest}
 use Rattle.c_types.specs.declared.program.Dest.TheVariants.{Ptr as PtrDest, Data as DataDest}
 use Rattle.c_types.specs.Program.{Program, is_target, both_targets, path_target, rhs_typed, arg_typed}
 use Rattle.c_types.specs.Program.{args_typed, value_typed, dest_typed, to_typed, is_typed}
-use Rattle.c_types.specs.Control.{Items, Done, Do, Close, If, Loop, Again, DoLoop, DoAgain, Enter, Leave, Exit, Ask}
-use Rattle.c_types.specs.Control.{Not, Both, Either, ◌then◌, opened, after_again, from_again, from_exit, closed_ptrs}
+use Rattle.c_types.specs.Control.{Items, Do, Close, If, Enter, Leave, Exit, Ask}
+use Rattle.c_types.specs.Control.{◌then◌, opened, after_again, from_again, from_exit, closed_ptrs}
 use Rattle.c_types.specs.Control.{closed_datums, ptr_vars, datum_vars, with_result, start_of}
 use Rattle.c_types.specs.Steps.{Turn, Goes, Stops, Faults, read, read_data_rhs, write_path, write_data, blank}
 use Rattle.c_types.specs.Steps.{◌>>=◌, makes_cell, read_data_op, give, enter, give_back, without, leave, hand}
@@ -52,7 +51,7 @@ pub turn_gives : (P : Items → Store → Type 0) (t : Turn) (js : Items) (u : S
     → P js u
 turn_gives P t js u this e = subst (TurnGives P) e this
 
-settle_gives : (P : Items → Store → Type 0) (s : Store) (is : Items) → P is s → TurnGives P (settle s is)
+pub settle_gives : (P : Items → Store → Type 0) (s : Store) (is : Items) → P is s → TurnGives P (settle s is)
 settle_gives P s is this = here (leaks s) refl
   where
     here : (b : Bool) → leaks s ≡ b → TurnGives P (settle s is)
@@ -64,7 +63,7 @@ settled_gives : (P : Items → Store → Type 0) (r : Result Store Fault) (is : 
 settled_gives P (Ok s) is this = settle_gives P s is this
 settled_gives P (Err k) is this = tt
 
-finished_gives : (P : Items → Store → Type 0) (r : Result Store Fault) → TurnGives P (finished r)
+pub finished_gives : (P : Items → Store → Type 0) (r : Result Store Fault) → TurnGives P (finished r)
 finished_gives P (Err k) = tt
 finished_gives P (Ok s) = here (leaks (all_dead s)) refl
   where
@@ -72,17 +71,23 @@ finished_gives P (Ok s) = here (leaks (all_dead s)) refl
     here true leak = rw leak tt
     here false fine = rw fine tt
 
+pub test_gives : (P : Items → Store → Type 0) (r : Result Bool Fault) (x y is : Items) (s : Store) → P (x then is) s
+    → P (y then is) s → TurnGives P (test_turn r x y is s)
+test_gives P (Ok true) x y is s yes_on no_on = settle_gives P s (x then is) yes_on
+test_gives P (Ok false) x y is s yes_on no_on = settle_gives P s (y then is) no_on
+test_gives P (Err k) x y is s yes_on no_on = tt
+
 -- Structs that agree
 
-target_is : (o : Option ℕ) (t : ℕ) → is_target o t ≡ true → o ≡ Some t
+pub target_is : (o : Option ℕ) (t : ℕ) → is_target o t ≡ true → o ≡ Some t
 target_is None t e = absurd (true≢false (sym e))
 target_is (Some u) t e = ap Some (eqb-true u t e)
 
-some_target : (o : Option ℕ) → is_some o ≡ true → (t : ℕ) × (o ≡ Some t)
+pub some_target : (o : Option ℕ) → is_some o ≡ true → (t : ℕ) × (o ≡ Some t)
 some_target None e = absurd (true≢false (sym e))
 some_target (Some t) e = (t, refl)
 
-agreed : (o r : Option ℕ) → both_targets o r ≡ true → (t : ℕ) × (o ≡ Some t) × (r ≡ Some t)
+pub agreed : (o r : Option ℕ) → both_targets o r ≡ true → (t : ℕ) × (o ≡ Some t) × (r ≡ Some t)
 agreed None r e = absurd (true≢false (sym e))
 agreed (Some t) r e = (t, refl, target_is r t e)
 
@@ -224,40 +229,23 @@ module _ (p : Program) (typed : is_typed p ≡ true) where
       settled_gives Goods _ is (with_items is _ this.0
       (onward_gives (λ v. Unit {0}) (Sound p) (read s q) (λ v. freed s v) (always (read s q))
       (λ v that. freed_sound p s v this.1)))
-  act_gives mode Error is s x e this = tt
-  act_gives mode Halt is s x e this = tt
   act_gives mode (Return operand) is s x e this = finished_gives Goods (look_at s operand)
-  act_gives mode (LeaveAct f value) is s x e this = tt
   act_gives mode Break is s x e this =
       settle_gives Goods (kill (closed_ptrs is) (closed_datums is) s) (after_again is)
       (after_fit p is this.0, kill_sound p (closed_ptrs is) (closed_datums is) s this.1)
   act_gives mode Continue is s x e this =
       settle_gives Goods (kill (closed_ptrs is) (closed_datums is) s) (from_again is)
       (from_fit p is this.0, kill_sound p (closed_ptrs is) (closed_datums is) s this.1)
-
-  test_gives : (r : Result Bool Fault) (x y is : Items) (s : Store) → ItemsFit p x → ItemsFit p y → Goods is s
-      → TurnGives Goods (test_turn r x y is s)
-  test_gives (Ok true) x y is s yes_fit no_fit this =
-      settle_gives Goods s (x then is) (then_fit p x is yes_fit this.0, this.1)
-  test_gives (Ok false) x y is s yes_fit no_fit this =
-      settle_gives Goods s (y then is) (then_fit p y is no_fit this.0, this.1)
-  test_gives (Err k) x y is s yes_fit no_fit this = tt
+  act_gives mode _ is s x e this = tt
 
   step_gives : (mode : MallocMode) (is : Items) (s : Store) (x : ℕ) → Goods is s
       → TurnGives Goods (turn_of p.shapes.structs mode is s x)
-  step_gives mode Done s x this = tt
   step_gives mode (Do a m is) s x this = act_gives mode a is s x this.0.0 (this.0.1, this.1)
   step_gives mode (Close ps ds m is) s x this =
       settle_gives Goods (kill ps ds s) is (this.0, kill_sound p ps ds s this.1)
   step_gives mode (If (Ask a m) y n is) s x this =
-      test_gives (atom_of a s x) y n is s this.0.0 this.0.1 (this.0.2, this.1)
-  step_gives mode (If (Not c) y n is) s x this = tt
-  step_gives mode (If (Both c d) y n is) s x this = tt
-  step_gives mode (If (Either c d) y n is) s x this = tt
-  step_gives mode (Loop c n b is) s x this = tt
-  step_gives mode (Again c n b is) s x this = tt
-  step_gives mode (DoLoop c b is) s x this = tt
-  step_gives mode (DoAgain c b is) s x this = tt
+      test_gives Goods (atom_of a s x) y n is s (then_fit p y is this.0.0 this.0.2, this.1)
+      (then_fit p n is this.0.1 this.0.2, this.1)
   step_gives mode (Enter vs ws m is) s x this =
       settled_gives Goods (enter s vs ws) is
       (with_items is (enter s vs ws) this.0.1 (enter_sound s vs ws this.0.0.args_fit this.1))
@@ -268,6 +256,7 @@ module _ (p : Program) (typed : is_typed p ≡ true) where
   step_gives mode (Exit v vs d m is) s x this =
       settled_gives Goods (exit s v vs d) is
       (with_items is (exit s v vs d) this.0.1 (exit_sound s v vs d this.0.0.to_fits this.1))
+  step_gives mode _ s x this = tt
 
   goes_good : (mode : MallocMode) (is js : Items) (s t : Store) (x : ℕ) → Goods is s
       → turn_of p.shapes.structs mode (opened is) s x ≡ Goes js t
