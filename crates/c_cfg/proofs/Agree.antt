@@ -2,7 +2,7 @@
 -- the other, do what the step does (up to `ActTurns` and `Tested`; of calls `CallRows` and `ExitRows`). A step at a
 -- place is the run along the place's edges (`Ways`, `StepsAlike`), for any relation of outcomes that counts no steps;
 -- used for two such relations it gives both directions and the bound (`Simulated`, `Agreed`). No run of the graph is
--- stuck, and between steps the temporaries hold nothing (`Seeing`, `Unstuck`, `BetweenSteps`).
+-- stuck, and between steps the temporaries hold nothing (`Unstuck`, `BetweenSteps`).
 pub mod ActTurns
 pub mod Agreed
 pub mod Arrows
@@ -19,7 +19,6 @@ pub mod OtherMarks
 pub mod Passing
 pub mod PointerRows
 pub mod Reading
-pub mod Seeing
 pub mod Simulated
 pub mod StepsAlike
 pub mod TempLeaks

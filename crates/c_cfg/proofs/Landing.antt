@@ -3,8 +3,7 @@ use Rattle.std.proofs.Common.{ℕ, List, [], ◌∷◌, subst}
 use Rattle.fore_base.specs.Lists.{Every}
 use Rattle.fore_base.proofs.ListLemmas.{every_append, every_parts}
 use Rattle.c_types.specs.declared.program.Act.{Act}
-use Rattle.c_types.specs.declared.program.Act.TheVariants.{SetPtr, SetData, Free, Error, Halt, Return, Break, Continue}
-use Rattle.c_types.specs.declared.program.Act.TheVariants.{Leave as LeaveAct}
+use Rattle.c_types.specs.declared.program.Act.TheVariants.{SetPtr, SetData, Free, Break, Continue}
 use Rattle.c_types.specs.Control.{Items, Done, Do, Close, If, Loop, Again, DoLoop, DoAgain, Test, Ask, Not, Both}
 use Rattle.c_types.specs.Control.{Either, Enter, Leave, Exit, ◌then◌, ask, round, do_round, open_before, opened}
 use Rattle.c_types.specs.Control.{after_again, from_again, from_exit}
@@ -180,6 +179,15 @@ module _ (R : Items → Type 0) where
   pub each_exit : (is : Items) → Each is Done → Each (from_exit is) Done
   each_exit = exit_kept After rest_after
 
+  -- after an act
+  pub each_followed : (a : Act) (is : Items) → Each is Done → Each (followed_by a is) Done
+  each_followed (SetPtr to from) is h = h
+  each_followed (SetData to from) is h = h
+  each_followed (Free p) is h = h
+  each_followed Break is h = each_after is h
+  each_followed Continue is h = each_from is h
+  each_followed _ is h = tt
+
   -- The places after each place
 
   tests_after : (c : Test) (x y r : Items) → EachTest c x y r → Each x r → Each y r → Each r Done
@@ -247,15 +255,11 @@ module _ (T : ℕ → Type 0) (at : Items → ℕ) where
   act_leads (SetPtr to from) is d h = (each_opened There is d h).0
   act_leads (SetData to from) is d h = (each_opened There is d h).0
   act_leads (Free p) is d h = (each_opened There is d h).0
-  act_leads Error is d h = d
-  act_leads Halt is d h = d
-  act_leads (Return operand) is d h = d
-  act_leads (LeaveAct f value) is d h = d
   act_leads Break is d h = (each_opened There (after_again is) d (each_after There is h)).0
   act_leads Continue is d h = (each_opened There (from_again is) d (each_from There is h)).0
+  act_leads _ is d h = d
 
   place_leads : (c : Items) → There Done → Each There c Done → PlaceLeads T at c
-  place_leads Done d h = tt
   place_leads (Do a m is) d h = act_leads a is d h.1
   place_leads (Close ps ds m is) d h = (each_opened There is d h.1).0
   place_leads (If (Ask a m) x y is) d h =
@@ -264,16 +268,10 @@ module _ (T : ℕ → Type 0) (at : Items → ℕ) where
         (each_opened There (x then is) d (whole There x is hx h.3)).0,
         (each_opened There (y then is) d (whole There y is hy h.3)).0,
       )
-  place_leads (If (Not c) x y is) d h = tt
-  place_leads (If (Both c e) x y is) d h = tt
-  place_leads (If (Either c e) x y is) d h = tt
-  place_leads (Loop c n b is) d h = tt
-  place_leads (Again c n b is) d h = tt
-  place_leads (DoLoop c b is) d h = tt
-  place_leads (DoAgain c b is) d h = tt
   place_leads (Enter vs ws m is) d h = (each_opened There is d h.1).0
   place_leads (Leave v vs a m is) d h = (each_opened There (from_exit is) d (each_exit There is h.1)).0
   place_leads (Exit v vs e m is) d h = (each_opened There is d h.1).0
+  place_leads _ d h = tt
 
   all_lead : (cs : List Items) → There Done → Every (λ c. Each There c Done) cs → Every (PlaceLeads T at) cs
   all_lead [] d h = tt

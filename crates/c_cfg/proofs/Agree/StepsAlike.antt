@@ -11,8 +11,7 @@ use Rattle.c_types.specs.declared.mode.MallocMode.{MallocMode}
 use Rattle.c_types.specs.declared.outcome.Outcome.{Outcome}
 use Rattle.c_types.specs.declared.outcome.Outcome.TheVariants.{Ended, Fault, StillRunning}
 use Rattle.c_types.specs.declared.program.Act.{Act}
-use Rattle.c_types.specs.declared.program.Act.TheVariants.{SetPtr, SetData, Free, Error, Halt, Return, Break, Continue}
-use Rattle.c_types.specs.declared.program.Act.TheVariants.{Leave as LeaveAct}
+use Rattle.c_types.specs.declared.program.Act.TheVariants.{Return}
 use Rattle.c_types.specs.declared.program.PtrOp.{PtrOp}
 use Rattle.c_types.specs.declared.program.DataOp.{DataOp}
 use Rattle.c_types.specs.declared.program.Atom.{Atom}
@@ -49,7 +48,7 @@ use Rattle.c_cfg.proofs.Calls.Homes.{Homed}
 use Rattle.c_cfg.proofs.Calls.Idle.{FreeAt}
 use Rattle.c_cfg.proofs.PlainLinks.{length_in, enter_plain, leave_plain, exit_plain}
 use Rattle.c_cfg.proofs.Ranged.{Ranged}
-use Rattle.c_cfg.proofs.Landing.{Each, Front, whole, each_after, each_from, each_exit}
+use Rattle.c_cfg.proofs.Landing.{Each, Front, whole, each_followed, each_exit}
 
 module _ (nv nd : ℕ) where
   abbrev pub atom_size : Atom → ℕ
@@ -117,17 +116,6 @@ module _ (p : Program) (mode : MallocMode) (edges : List Edge) (line : ℕ → �
   IsKnown c = IsRow (length p.vars) (length p.data_vars) edges mode line at mids c × (Ranged p c × Homed p c)
       × (size (length p.vars) (length p.data_vars) c ≤ most)
 
-  pub each_followed : (a : Act) (is : Items) → Each IsKnown is Done → Each IsKnown (followed_by a is) Done
-  each_followed (SetPtr to from) is h = h
-  each_followed (SetData to from) is h = h
-  each_followed (Free q) is h = h
-  each_followed Error is h = tt
-  each_followed Halt is h = tt
-  each_followed (LeaveAct f value) is h = tt
-  each_followed (Return operand) is h = tt
-  each_followed Break is h = each_after IsKnown is h
-  each_followed Continue is h = each_from IsKnown is h
-
 module _ (p : Program) (typed : is_typed p ≡ true) (mode : MallocMode) (Rel : Outcome → Outcome → Type 0)
     (equal : (o r : Outcome) → stepless o ≡ stepless r → Rel o r) (edges : List Edge) (line : ℕ → ℕ) (at : Items → ℕ)
     (mids : Items → List ℕ) (most : ℕ) where
@@ -172,15 +160,8 @@ module _ (p : Program) (typed : is_typed p ≡ true) (mode : MallocMode) (Rel : 
     act_stops : (a : Act) (is : Items) (l : ℕ) (ds : List ℕ) (v : ℕ)
         → Meets Rel equal p.shapes.structs edges (Ended (step + 1)) l
         (λ r t. graph n r (at (opened (followed_by a is))) t ds v) (stop_of a s)
-    act_stops (SetPtr to from) is l ds v = λ r. equal _ _ refl
-    act_stops (SetData to from) is l ds v = λ r. equal _ _ refl
-    act_stops (Free g) is l ds v = λ r. equal _ _ refl
-    act_stops Error is l ds v = λ r. equal _ _ refl
-    act_stops Halt is l ds v = λ r. equal _ _ refl
-    act_stops (LeaveAct f value) is l ds v = λ r. equal _ _ refl
     act_stops (Return operand) is l ds v = λ r. equal _ _ (sym (exit_ends exit n r (ext0 (all_dead s)) ds v))
-    act_stops Break is l ds v = λ r. equal _ _ refl
-    act_stops Continue is l ds v = λ r. equal _ _ refl
+    act_stops _ is l ds v = λ r. equal _ _ refl
 
     abbrev Cont : Items → Type 0
     Cont o = (x : ℕ) (ds : List ℕ) (v : ℕ) → Then (turn_of p.shapes.structs mode o s x) ds v
@@ -355,7 +336,7 @@ module _ (p : Program) (typed : is_typed p ≡ true) (mode : MallocMode) (Rel : 
         (line m) (λ r t. graph n r (at (opened (followed_by a is))) t ds v) z)
         (sym (act_passes p typed x s sound clear mode a is fits.0))
         (turn_meets (act_turn p.shapes.structs mode a is s x) (followed_by a is) (line m) (stop_of a s) ds v
-        (act_to p.shapes.structs mode a is s x) (each_followed p mode edges line at mids most a is h.1.1) (on x ds v)
+        (act_to p.shapes.structs mode a is s x) (each_followed Place a is h.1.1) (on x ds v)
         (act_stops a is (line m) ds v))))
     step_alike (Close ps ds m is) h fits free on =
         row_alike Rel equal p.shapes.structs edges false (λ x cs v. out (settle (kill ps ds s) is) (line m) cs v)
@@ -370,13 +351,6 @@ module _ (p : Program) (typed : is_typed p ≡ true) (mode : MallocMode) (Rel : 
     step_alike (If (Ask a m) x y is) h fits free on =
         atom_step m x y is (whole Place x is (rw (then_done is) at h.1.1) h.1.3)
         (whole Place y is (rw (then_done is) at h.1.2) h.1.3) a h.0 on
-    step_alike (If (Not c) x y is) h fits free on = absurd h.0.0
-    step_alike (If (Both c d) x y is) h fits free on = absurd h.0.0
-    step_alike (If (Either c d) x y is) h fits free on = absurd h.0.0
-    step_alike (Loop c k b is) h fits free on = absurd h.0.0
-    step_alike (Again c k b is) h fits free on = absurd h.0.0
-    step_alike (DoLoop c b is) h fits free on = absurd h.0.0
-    step_alike (DoAgain c b is) h fits free on = absurd h.0.0
     step_alike (Enter vs ws m is) h fits free on =
         call_alike (enter s vs ws) is (line m) (enter_row (length p.vars) (length p.data_vars) vs ws)
         (at (Enter vs ws m is)) h.0.0.way h.0.0.leads
@@ -393,3 +367,4 @@ module _ (p : Program) (typed : is_typed p ≡ true) (mode : MallocMode) (Rel : 
         (at (Exit v vs d m is)) h.0.0.way h.0.0.leads
         (plain_ones _ (exit_plain (length p.vars) (length p.data_vars) v vs d))
         (λ x. exit_passes p typed x s sound clear v vs d fits.0) h.1.1 on
+    step_alike _ h fits free on = absurd h.0.0
