@@ -203,8 +203,6 @@ module _ (p : Program) where
   open_before_same : (m : ℕ) (is r o : Items) → Ranged is → open_vars m o ≡ open_vars m r
       → open_vars m (open_before is r o) ≡ open_vars m (is then r)
   open_before_same m Done r o h e = e
-  open_before_same m (Do a l is) r o h e = refl
-  open_before_same m (Close ps ds l is) r o h e = refl
   open_before_same m (If c x y is) r o h e = open_ask m c x y (is then r)
   open_before_same m (Loop c n b is) r o h e = open_ask m c (round c n b) Done (is then r)
   open_before_same m (Again c n b is) r o h e =
@@ -216,9 +214,7 @@ module _ (p : Program) where
       open_before_same m b (DoAgain c b q) (ask c (do_round c b) Done q) h.1 (open_ask m c (do_round c b) Done q)
       ∙ h.3 m (DoAgain c b q)
   open_before_same m (DoAgain c b is) r o h e = open_ask m c (do_round c b) Done (is then r)
-  open_before_same m (Enter vs ws l is) r o h e = refl
-  open_before_same m (Leave v vs a l is) r o h e = refl
-  open_before_same m (Exit v vs d l is) r o h e = refl
+  open_before_same m _ r o h e = refl
 
   pub opened_open : (c : Items) → Ranged c → open_vars 0 (opened c) ≡ open_vars 0 c
   opened_open c h = open_before_same 0 c Done Done h refl ∙ ap (open_vars 0) (then_done c)
@@ -239,31 +235,19 @@ module _ (p : Program) where
   merged_below n [] ks h k = k
   merged_below n (m ∷ ms) ks h k = insert_below n m (merged ms ks) h.0 (merged_below n ms ks h.1 k)
 
-  pub closed_ptrs_below : (is : Items) → Ranged is → Every (λ x. x < length p.vars) (closed_ptrs is)
-  closed_ptrs_below Done h = tt
-  closed_ptrs_below (Do a m is) h = closed_ptrs_below is h.1
-  closed_ptrs_below (Close ps ds m is) h =
-      merged_below (length p.vars) ps (closed_ptrs is) (numbers_below (length p.vars) ps h.0) (closed_ptrs_below is h.2)
-  closed_ptrs_below (If c x y is) h = closed_ptrs_below is h.3
-  closed_ptrs_below (Loop c n b is) h = closed_ptrs_below is h.3
-  closed_ptrs_below (Again c n b is) h = tt
-  closed_ptrs_below (DoLoop c b is) h = closed_ptrs_below is h.2
-  closed_ptrs_below (DoAgain c b is) h = tt
-  closed_ptrs_below (Enter vs ws m is) h = closed_ptrs_below is h.1
-  closed_ptrs_below (Leave v vs a m is) h = closed_ptrs_below is h.1
-  closed_ptrs_below (Exit v vs d m is) h = closed_ptrs_below is h.1
-
-  pub closed_datums_below : (is : Items) → Ranged is → Every (λ x. x < length p.data_vars) (closed_datums is)
-  closed_datums_below Done h = tt
-  closed_datums_below (Do a m is) h = closed_datums_below is h.1
-  closed_datums_below (Close ps ds m is) h =
-      merged_below (length p.data_vars) ds (closed_datums is) (numbers_below (length p.data_vars) ds h.1)
-      (closed_datums_below is h.2)
-  closed_datums_below (If c x y is) h = closed_datums_below is h.3
-  closed_datums_below (Loop c n b is) h = closed_datums_below is h.3
-  closed_datums_below (Again c n b is) h = tt
-  closed_datums_below (DoLoop c b is) h = closed_datums_below is h.2
-  closed_datums_below (DoAgain c b is) h = tt
-  closed_datums_below (Enter vs ws m is) h = closed_datums_below is h.1
-  closed_datums_below (Leave v vs a m is) h = closed_datums_below is h.1
-  closed_datums_below (Exit v vs d m is) h = closed_datums_below is h.1
+  pub closed_below : (is : Items) → Ranged is → Every (λ x. x < length p.vars) (closed_ptrs is)
+      × Every (λ x. x < length p.data_vars) (closed_datums is)
+  closed_below Done h = (tt, tt)
+  closed_below (Do a m is) h = closed_below is h.1
+  closed_below (Close ps ds m is) h = let rest = closed_below is h.2 in (
+    merged_below (length p.vars) ps (closed_ptrs is) (numbers_below (length p.vars) ps h.0) rest.0,
+    merged_below (length p.data_vars) ds (closed_datums is) (numbers_below (length p.data_vars) ds h.1) rest.1,
+  )
+  closed_below (If c x y is) h = closed_below is h.3
+  closed_below (Loop c n b is) h = closed_below is h.3
+  closed_below (Again c n b is) h = (tt, tt)
+  closed_below (DoLoop c b is) h = closed_below is h.2
+  closed_below (DoAgain c b is) h = (tt, tt)
+  closed_below (Enter vs ws m is) h = closed_below is h.1
+  closed_below (Leave v vs a m is) h = closed_below is h.1
+  closed_below (Exit v vs d m is) h = closed_below is h.1

@@ -25,13 +25,14 @@ use Rattle.c_types.specs.Program.{value_typed, dest_typed, to_typed, is_typed}
 use Rattle.c_types.specs.Control.{ptr_vars, datum_vars, with_result}
 use Rattle.c_types.specs.Fits.{EnterFits, LeaveFits, ExitFits}
 use Rattle.c_types.proofs.WellTyped.{has_vars_known}
+use Rattle.c_types.proofs.StepLaws.{agreed}
 use Rattle.c_cfg.specs.declared.graph.Instr.TheVariants.{LoadPtr, StorePtr}
 use Rattle.c_cfg.specs.Links.{Link, loads, used_before, give_path, give_datum, give_links, given_used, give_each}
 use Rattle.c_cfg.specs.Links.{one_used, each_used, enter_row, die, leave_row, hand_ptr, hand_datum, hand_links}
 use Rattle.c_cfg.specs.Links.{dest_used, exit_row}
 use Rattle.c_cfg.specs.Ranges.{IsPtrField}
 use Rattle.c_cfg.proofs.Ranged.{insert_below}
-use Rattle.c_cfg.proofs.RangedLinks.{agreed, PathFits, path_fits, some_fits, data_fits, LinkFits, All, more, Ptr, Datum}
+use Rattle.c_cfg.proofs.RangedLinks.{PathFits, path_fits, some_fits, data_fits, LinkFits, All, more, Ptr, Datum}
 use Rattle.c_cfg.proofs.RangedLinks.{own, own_datum, p0_in, p1_in, loads_fit, holder_fits, used_fits, ends_fit}
 use Rattle.c_cfg.proofs.RangedLinks.{last_fits, data_loads_fit, base_used_fits, wider}
 

@@ -13,15 +13,15 @@ use Rattle.c_types.specs.declared.program.PtrOp.{PtrOp}
 use Rattle.c_types.specs.declared.program.PtrOp.TheVariants.{Path as OpPath, Null as OpNull}
 use Rattle.c_types.specs.declared.program.DataOp.{DataOp}
 use Rattle.c_types.specs.declared.program.DataOp.TheVariants.{Path as DataOpPath, Known as DataOpKnown}
-use Rattle.c_types.specs.declared.program.Atom.TheVariants.{Choice as ChoiceAtom, Known as KnownAtom, Ptr as PtrAtom}
+use Rattle.c_types.specs.declared.program.Atom.TheVariants.{Known as KnownAtom, Ptr as PtrAtom}
 use Rattle.c_types.specs.declared.program.Atom.TheVariants.{Data as DataAtom}
 use Rattle.c_types.specs.Program.{Program, path_target, ops_typed, data_op_typed, is_typed}
-use Rattle.c_types.specs.Control.{Items, Done, Do, Close, If, Loop, Again, DoLoop, DoAgain, Enter, Leave, Exit, Ask}
-use Rattle.c_types.specs.Control.{Not, Both, Either}
+use Rattle.c_types.specs.Control.{Items, Done, Do, Close, If, Enter, Leave, Exit, Ask}
 use Rattle.c_cfg.specs.declared.graph.Instr.{Instr}
-use Rattle.c_cfg.specs.declared.graph.Instr.TheVariants.{CopyPtr, LoadPtr, StorePtr, StoreConst, New, Free, Kill}
-use Rattle.c_cfg.specs.declared.graph.Instr.TheVariants.{CopyData, LoadData, StoreData, TestPtr, TestData, Choose, Stop}
+use Rattle.c_cfg.specs.declared.graph.Instr.TheVariants.{New}
+use Rattle.c_cfg.specs.declared.graph.Instr.TheVariants.{Choose}
 use Rattle.c_cfg.specs.declared.graph.Edge.{Edge}
+use Rattle.c_types.proofs.StepLaws.{agreed}
 use Rattle.c_cfg.specs.Graphs.{ControlGraph, may_have}
 use Rattle.c_cfg.specs.GraphRuns.{out_of}
 use Rattle.c_cfg.specs.Links.{Link, One, Two, op_loads, op_arg, op_used, data_op_loads, data_op_arg, op_base_used}
@@ -33,7 +33,7 @@ use Rattle.c_cfg.proofs.Leaving.{in_out, all_below, PlaceGood, each_location, ex
 use Rattle.c_cfg.proofs.Landing.{places_lead}
 use Rattle.c_cfg.proofs.Ranged.{numbers_below, Ranged, unmarked, places_ranged}
 use Rattle.c_cfg.proofs.RangedStart.{start_ranged}
-use Rattle.c_cfg.proofs.RangedLinks.{agreed, PathFits, path_fits, some_fits, DataFits, data_fits, LinkFits, All, more}
+use Rattle.c_cfg.proofs.RangedLinks.{PathFits, path_fits, some_fits, DataFits, data_fits, LinkFits, All, more}
 use Rattle.c_cfg.proofs.RangedLinks.{Ptr, Datum, Fits, own, p0_in, p1_in, d0_in, d1_in, loads_fit, holder_fits}
 use Rattle.c_cfg.proofs.RangedLinks.{used_fits, ends_fit, data_loads_fit, data_holder_fits, base_used_fits}
 use Rattle.c_cfg.proofs.RangedLinks.{data_used_fits, wider, act_fits}
@@ -109,21 +109,8 @@ module _ (p : Program) where
 
     -- the two edges of a `malloc` that may fail fit where the New does
     failing_fits : (l : Link) → LinkFits p l → LinkFits p (failing_link l)
-    failing_fits (One (CopyPtr to from)) h = h
-    failing_fits (One (LoadPtr to from field)) h = h
-    failing_fits (One (StorePtr to field from)) h = h
-    failing_fits (One (StoreConst to field value)) h = h
     failing_fits (One (New to shape)) h = ((h.0.0, tt), h.0, refl, refl)
-    failing_fits (One (Free from)) h = h
-    failing_fits (One (Kill ps ds)) h = h
-    failing_fits (One (CopyData to from)) h = h
-    failing_fits (One (LoadData to from field)) h = h
-    failing_fits (One (StoreData to field from)) h = h
-    failing_fits (One (TestPtr l r equal)) h = h
-    failing_fits (One (TestData l r equal)) h = h
-    failing_fits (One (Choose to)) h = h
-    failing_fits (One (Stop error)) h = h
-    failing_fits (Two i j) h = h
+    failing_fits _ h = h
 
     links_fit : (mode : MallocMode) (ls : List Link) → All p ls → All p (links_in mode ls)
     links_fit Always ls h = h
@@ -135,11 +122,9 @@ module _ (p : Program) where
       Good = PlaceGood (length p.vars) (length p.data_vars) (LinkFits p) TestFits mode
 
       place_fits : (c : Items) → Ranged p c → Good c
-      place_fits Done h = tt
       place_fits (Do a m is) h = links_fit mode (act_row nv nd a is) (act_fits p typed a is h.0 h.1)
       place_fits (Close ps ds m is) h =
           ((wider p typed nv ps (numbers_below nv ps h.0), wider p typed nd ds (numbers_below nd ds h.1)), refl)
-      place_fits (If (Ask ChoiceAtom m) x y is) h = tt
       place_fits (If (Ask (KnownAtom b) m) x y is) h = ((tt, tt), refl)
       place_fits (If (Ask (PtrAtom l r e) m) x y is) h =
           let both = ops_fit l r h.0 in (
@@ -163,16 +148,10 @@ module _ (p : Program) where
                 (every_append (Datum p) (op_data_used nd l) _ (op_data_fits nd l (d0_in p))
                 (op_data_fits (nd + 1) r (d1_in p))),
           )
-      place_fits (If (Not c) x y is) h = tt
-      place_fits (If (Both c d) x y is) h = tt
-      place_fits (If (Either c d) x y is) h = tt
-      place_fits (Loop c n b is) h = tt
-      place_fits (Again c n b is) h = tt
-      place_fits (DoLoop c b is) h = tt
-      place_fits (DoAgain c b is) h = tt
       place_fits (Enter vs ws m is) h = enter_fits p typed vs ws h.0
       place_fits (Leave v vs a m is) h = leave_fits p typed v vs a h.0
       place_fits (Exit v vs d m is) h = exit_fits p typed v vs d h.0
+      place_fits _ h = tt
 
       all_fit : (cs : List Items) → Every (Ranged p) cs → Every Good cs
       all_fit [] h = tt

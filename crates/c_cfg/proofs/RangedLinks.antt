@@ -1,7 +1,7 @@
 -- Each number of the edges of an act is in range.
 use Rattle.std.proofs.Common.{◌≡◌, ◌<◌, ◌≤◌, ◌+◌, ℕ, zero, suc, true, true≢false, List, [], ◌∷◌, ◌++◌, length, refl}
 use Rattle.std.proofs.Common.{sym, ap, arith, Option, Some, None, is_some}
-use Rattle.std.proofs.lemmas.Bool.{and_parts, ltb-true, leb-true, eqb-true}
+use Rattle.std.proofs.lemmas.Bool.{and_parts, ltb-true, leb-true}
 use Rattle.fore_base.specs.declared.limits.TheConstants.{DATUM}
 use Rattle.fore_base.specs.declared.shape.Shape.{Shape}
 use Rattle.fore_base.specs.Lists.{Every}
@@ -16,16 +16,17 @@ use Rattle.c_types.specs.declared.program.DataRhs.{DataRhs}
 use Rattle.c_types.specs.declared.program.DataRhs.TheVariants.{Path as DataRhsPath, Known as DataRhsKnown}
 use Rattle.c_types.specs.declared.program.DataRhs.TheVariants.{Choice as DataRhsChoice}
 use Rattle.c_types.specs.declared.program.Act.{Act}
-use Rattle.c_types.specs.declared.program.Act.TheVariants.{SetPtr, SetData, Free as FreeAct, Error, Halt, Return, Break}
-use Rattle.c_types.specs.declared.program.Act.TheVariants.{Continue, Leave as LeaveAct}
+use Rattle.c_types.specs.declared.program.Act.TheVariants.{SetPtr, SetData, Free as FreeAct, Return, Break}
+use Rattle.c_types.specs.declared.program.Act.TheVariants.{Continue}
 use Rattle.c_types.specs.declared.program.VarDef.{VarDef}
 use Rattle.c_types.specs.Program.{Program, path_target, data_typed, data_rhs_typed, returned_typed, has_datum}
-use Rattle.c_types.specs.Program.{is_target, both_targets, is_typed}
+use Rattle.c_types.specs.Program.{is_typed}
 use Rattle.c_types.specs.Control.{Items, closed_ptrs, closed_datums}
 use Rattle.c_types.specs.Steps.{below}
 use Rattle.c_types.specs.Fits.{var_targets, ActFits}
 use Rattle.c_types.proofs.CellsFit.{IsAt}
 use Rattle.c_types.proofs.Fitting.{Leads, PathLeads, path_leads, path_below}
+use Rattle.c_types.proofs.StepLaws.{target_is, some_target, agreed}
 use Rattle.c_types.proofs.WellTyped.{has_shapes_typed, has_vars_typed}
 use Rattle.c_cfg.specs.declared.graph.Instr.{Instr}
 use Rattle.c_cfg.specs.declared.graph.Instr.TheVariants.{Kill}
@@ -35,21 +36,7 @@ use Rattle.c_cfg.specs.Links.{base_used, data_used, var_row, path_row, ptr_row, 
 use Rattle.c_cfg.specs.Links.{return_row, act_row}
 use Rattle.c_cfg.specs.Ranges.{IsPtrField, IsDataField, InstrFits}
 use Rattle.c_cfg.proofs.Leaving.{below_in}
-use Rattle.c_cfg.proofs.Ranged.{Ranged, closed_ptrs_below, closed_datums_below}
-
--- Structs that agree
-
-target_is : (o : Option ℕ) (t : ℕ) → is_target o t ≡ true → o ≡ Some t
-target_is None t e = absurd (true≢false (sym e))
-target_is (Some u) t e = ap Some (eqb-true u t e)
-
-pub some_target : (o : Option ℕ) → is_some o ≡ true → (t : ℕ) × (o ≡ Some t)
-some_target None e = absurd (true≢false (sym e))
-some_target (Some t) e = (t, refl)
-
-pub agreed : (o r : Option ℕ) → both_targets o r ≡ true → (t : ℕ) × (o ≡ Some t) × (r ≡ Some t)
-agreed None r e = absurd (true≢false (sym e))
-agreed (Some t) r e = (t, refl, target_is r t e)
+use Rattle.c_cfg.proofs.Ranged.{Ranged, closed_below}
 
 -- Paths
 
@@ -322,16 +309,8 @@ module _ (p : Program) where
     wider n ms h = every_weaker (λ m. m < n) (λ m. m < n + 2) ms (λ m l. omega (arith, l)) h
 
     closes_fit : (is : Items) → Ranged p is → All (One (Kill (closed_ptrs is) (closed_datums is)) ∷ [])
-    closes_fit is h = (
-      (
-        (
-          wider nv (closed_ptrs is) (closed_ptrs_below p is h),
-          wider nd (closed_datums is) (closed_datums_below p is h),
-        ),
-        refl,
-      ),
-      tt,
-    )
+    closes_fit is h = let below = closed_below p is h in
+        (((wider nv (closed_ptrs is) below.0, wider nd (closed_datums is) below.1), refl), tt)
 
     pub act_fits : (a : Act) (is : Items) → ActFits p a → Ranged p is → All (act_row nv nd a is)
     act_fits (SetPtr to from) is e h = let both = rhs_fits to from e in ptr_row_fits to from both.0 both.1
@@ -345,9 +324,7 @@ module _ (p : Program) where
           (holder_fits nv q.var q.fields p0_in (own q.var fit.var), refl),
           ends_fit _ [] (used_fits nv q.fields p0_in) tt,
         )
-    act_fits Error is e h = ((tt, refl), tt)
-    act_fits Halt is e h = ((tt, refl), tt)
-    act_fits (LeaveAct f value) is e h = ((tt, refl), tt)
     act_fits (Return operand) is e h = return_fits operand (operand_fits operand e)
     act_fits Break is e h = closes_fit is h
     act_fits Continue is e h = closes_fit is h
+    act_fits _ is e h = ((tt, refl), tt)

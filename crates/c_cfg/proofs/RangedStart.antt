@@ -7,7 +7,7 @@ use Rattle.c_types.specs.declared.program.Cond.TheOpen.{Atom as Atom-F, Not as N
 use Rattle.c_types.specs.Program.{Program, all_typed}
 use Rattle.c_types.specs.Program.{cond_typed_step, cond_typed}
 use Rattle.c_types.specs.Program.{is_typed}
-use Rattle.c_types.specs.Control.{Test, Both, Either, Items, Done, Exit, joined, test_step, test_of}
+use Rattle.c_types.specs.Control.{Test, Both, Either, Items, Done, If, Exit, joined, test_step, test_of}
 use Rattle.c_types.specs.Control.{start_of}
 use Rattle.c_types.proofs.TypedComposing.{ComposesTyped, start_composed}
 use Rattle.c_cfg.proofs.Calls.Standing.{IsStanding, standing, standing_closed}
@@ -69,6 +69,18 @@ module _ (p : Program) where
     stands : IsStanding f
     keeps : (r : Items) → Ranged p r → Ranged p (f r)
 
+  -- the sides of a branch, or the parts of a loop
+  both_keep : (c : Cond) (f g : Items → Items) → has_typed c ≡ true → RangedBefore f → RangedBefore g → (r : Items)
+      → Ranged p r → Ranged p (If (test_of c) (f Done) (g Done) r)
+  both_keep c f g e h k r rest = (
+    cond_is c e,
+    h.keeps Done tt,
+    k.keeps Done tt,
+    rest,
+    standing_closed f h.stands,
+    standing_closed g k.stands,
+  )
+
   ranging : ComposesTyped p RangedBefore
   ranging = record {
     none = record { stands = standing.none; keeps = λ r k. k };
@@ -80,25 +92,11 @@ module _ (p : Program) where
     close = λ ps ds m hp hd. record { stands = standing.close ps ds m; keeps = λ r rest. (hp, hd, rest) };
     branch = λ c f g e h k. record {
       stands = standing.branch (test_of c) f g h.stands k.stands;
-      keeps = λ r rest. (
-        cond_is c e,
-        h.keeps Done tt,
-        k.keeps Done tt,
-        rest,
-        standing_closed f h.stands,
-        standing_closed g k.stands,
-      );
+      keeps = both_keep c f g e h k;
     };
     loop = λ c f g e h k. record {
       stands = standing.loop (test_of c) f g h.stands k.stands;
-      keeps = λ r rest. (
-        cond_is c e,
-        h.keeps Done tt,
-        k.keeps Done tt,
-        rest,
-        standing_closed f h.stands,
-        standing_closed g k.stands,
-      );
+      keeps = both_keep c f g e h k;
     };
     do_loop = λ c f e h. record {
       stands = standing.do_loop (test_of c) f h.stands;

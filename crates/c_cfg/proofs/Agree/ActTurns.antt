@@ -1,23 +1,22 @@
 -- Each act's edges do what the act does.
-use Rattle.std.proofs.Common.{◌≡◌, ℕ, Bool, true, false, Option, Some, None, Result, Ok, Err, List, [], ◌∷◌, length}
+use Rattle.std.proofs.Common.{◌≡◌, ℕ, Bool, true, false, Result, Ok, Err, List, [], ◌∷◌, length}
 use Rattle.std.proofs.Common.{refl, sym, ap, ◌∙◌}
 use Rattle.fore_base.specs.declared.fault.Fault.{Fault}
-use Rattle.fore_base.specs.declared.store.Datum.{Datum}
 use Rattle.fore_base.specs.declared.shape.Shape.{Shape}
 use Rattle.fore_base.specs.declared.store.Store.{Store}
-use Rattle.fore_base.specs.Stores.{onward, kill}
+use Rattle.fore_base.specs.Stores.{kill}
 use Rattle.fore_base.specs.Heap.{leaks}
 use Rattle.c_types.specs.declared.mode.MallocMode.{MallocMode}
-use Rattle.c_types.specs.declared.program.DataPath.{DataPath}
 use Rattle.c_types.specs.declared.program.Act.{Act}
 use Rattle.c_types.specs.declared.program.Act.TheVariants.{SetPtr, SetData, Free, Error, Halt, Return, Break, Continue}
 use Rattle.c_types.specs.declared.program.Act.TheVariants.{Leave as LeaveAct}
 use Rattle.c_types.specs.Program.{Program, is_typed}
 use Rattle.c_types.specs.Control.{Items, after_again, from_again, closed_ptrs, closed_datums}
-use Rattle.c_types.specs.Steps.{Turn, Goes, Stops, Faults, read_data, look_at, assign, assign_data, free_path, all_dead}
+use Rattle.c_types.specs.Steps.{Turn, Goes, Stops, Faults, look_at, assign, assign_data, free_path, all_dead}
 use Rattle.c_types.specs.Steps.{settle, settled, finished, data_rhs_takes, act_turn}
 use Rattle.c_types.specs.Fits.{ActFits}
 use Rattle.c_types.proofs.Fitting.{Sound}
+use Rattle.c_types.proofs.LeakTests.{look_keeps}
 use Rattle.c_cfg.specs.declared.graph.Instr.TheVariants.{Kill, Stop}
 use Rattle.c_cfg.specs.Edges.{Pass, Passed, Faulted, Halted, onto}
 use Rattle.c_cfg.specs.Links.{Link, One, links_in, data_row, free_row, return_row, act_row}
@@ -57,14 +56,6 @@ stop_of (LeaveAct f value) s = Halted
 stop_of (Return operand) s = Passed (ext0 (all_dead s))
 stop_of Break s = Halted
 stop_of Continue s = Halted
-
-look_same : (s : Store) (operand : Option DataPath) (t : Store) → look_at s operand ≡ Ok t → s ≡ t
-look_same s None t e = cc
-look_same s (Some q) t e = here (read_data s q) e
-  where
-    here : (r : Result Datum Fault) → onward r (λ d. Ok s) ≡ Ok t → s ≡ t
-    here (Ok d) e = cc
-    here (Err k) e = cc
 
 return_turn : (s : Store) (r : Result Store Fault) → ((t : Store) → r ≡ Ok t → s ≡ t)
     → onto r (λ t. settled_pass (all_dead t)) ≡ turn_pass (Passed (ext0 (all_dead s))) (finished r)
@@ -113,7 +104,7 @@ module _ (p : Program) (typed : is_typed p ≡ true) (choice : ℕ) (s : Store) 
         plainly false (return_row (length p.vars) (length p.data_vars) operand)
         (returned_plain (length p.vars) (length p.data_vars) operand)
         ∙ return_passes p choice s sound whole operand fits
-        ∙ return_turn s (look_at s operand) (look_same s operand)
+        ∙ return_turn s (look_at s operand) (look_keeps s operand)
     act_passes Break is fits = plainly false (One (Kill (closed_ptrs is) (closed_datums is)) ∷ []) ((refl, refl), tt)
         ∙ kill_passes (closed_ptrs is) (closed_datums is) Halted (after_again is)
     act_passes Continue is fits = plainly false (One (Kill (closed_ptrs is) (closed_datums is)) ∷ []) ((refl, refl), tt)
@@ -149,9 +140,7 @@ pub act_to : (shapes : List Shape) (mode : MallocMode) (a : Act) (is : Items) (s
 act_to shapes mode (SetPtr to from) is s x = settled_to (assign shapes mode s to from x) is
 act_to shapes mode (SetData to from) is s x = settled_to (assign_data s to from x) is
 act_to shapes mode (Free p) is s x = settled_to (free_path s p) is
-act_to shapes mode Error is s x = tt
-act_to shapes mode Halt is s x = tt
-act_to shapes mode (LeaveAct f value) is s x = tt
 act_to shapes mode (Return operand) is s x = finished_to (look_at s operand) _
 act_to shapes mode Break is s x = settle_to (kill (closed_ptrs is) (closed_datums is) s) (after_again is)
 act_to shapes mode Continue is s x = settle_to (kill (closed_ptrs is) (closed_datums is) s) (from_again is)
+act_to shapes mode _ is s x = tt

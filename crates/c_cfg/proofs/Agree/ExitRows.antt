@@ -24,6 +24,7 @@ use Rattle.c_types.specs.Fits.{ExitFits}
 use Rattle.c_types.proofs.CellsFit.{length_set_each}
 use Rattle.c_types.proofs.Fitting.{PathLeads, path_leads, Sound}
 use Rattle.c_types.proofs.LeakKept.{write_from_vars, store_datum_vars}
+use Rattle.c_types.proofs.StepLaws.{agreed}
 use Rattle.c_cfg.specs.declared.graph.PtrArg.TheVariants.{Var as PtrVar}
 use Rattle.c_cfg.specs.declared.graph.DataArg.TheVariants.{Var as ArgVar}
 use Rattle.c_cfg.specs.declared.graph.Instr.{Instr}
@@ -40,7 +41,7 @@ use Rattle.c_cfg.proofs.Agree.OneEdges.{store_raw, store_datum_raw}
 use Rattle.c_cfg.proofs.Agree.Reading.{path_less, sound_sized, Slot, second_slot, held, value_of, FieldTyped}
 use Rattle.c_cfg.proofs.Agree.Reading.{field_typed, data_var_less, read_points, path_then, path_held}
 use Rattle.c_cfg.proofs.Agree.Dying.{IsCleared, both_cleared}
-use Rattle.c_cfg.proofs.Agree.PointerRows.{append_on, BothTarget, both_target}
+use Rattle.c_cfg.proofs.Agree.PointerRows.{append_on}
 use Rattle.c_cfg.proofs.Agree.Given.{tested_onto, bare, pass}
 use Rattle.c_cfg.proofs.Agree.CallRows.{dies, die_alone}
 
@@ -165,10 +166,10 @@ module _ (p : Program) (typed : is_typed p ≡ true) (choice : ℕ) where
     handed : (v : VarRef) (d : Dest) → DestFits v d → (rest : List Link)
         → go (hand_links nv nd v d ++ rest) (ext0 s) ≡ onto (hand s v d) (λ t. on_from rest t (leaves d))
     handed (PtrRef x) (ToPtr q) e rest =
-        let both : BothTarget (target (bare x)) (target q) = both_target (target (bare x)) (target q) e in
-        let from : PathLeads p (bare x) both.struct = path_leads p (bare x) both.struct both.first in
-        ptr_handed x (path_less p (bare x) both.struct from) both.struct from q.var q.fields
-        (path_leads p q both.struct both.second) rest
+        let both = agreed (target (bare x)) (target q) e in
+        let from : PathLeads p (bare x) both.0 = path_leads p (bare x) both.0 both.1 in
+        ptr_handed x (path_less p (bare x) both.0 from) both.0 from q.var q.fields
+        (path_leads p q both.0 both.2) rest
     handed (PtrRef x) (ToData q) e rest = absurd (true≢false (sym e))
     handed (DataRef x) (ToPtr q) e rest = absurd (true≢false (sym e))
     handed (DataRef x) (ToData q) e rest =

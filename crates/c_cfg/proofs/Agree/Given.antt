@@ -24,6 +24,7 @@ use Rattle.c_types.specs.Fits.{PointsTo}
 use Rattle.c_types.specs.Steps.{read, read_data_op, give}
 use Rattle.c_types.proofs.Fitting.{Gives, onward_gives, PathLeads, path_leads, Sound, path_sound, set_datum_sound}
 use Rattle.c_types.proofs.Fitting.{read_gives}
+use Rattle.c_types.proofs.StepLaws.{some_target, agreed}
 use Rattle.c_cfg.specs.declared.graph.PtrArg.TheVariants.{Var as PtrVar, Null as PtrNull}
 use Rattle.c_cfg.specs.declared.graph.DataArg.TheVariants.{Var as ArgVar, Known as ArgKnown}
 use Rattle.c_cfg.specs.declared.graph.Instr.{Instr}
@@ -37,7 +38,7 @@ use Rattle.c_cfg.proofs.Agree.Arrows.{before_last, last_of, loads_are, walk_befo
 use Rattle.c_cfg.proofs.Agree.OneEdges.{load_raw, load_datum_raw}
 use Rattle.c_cfg.proofs.Agree.Reading.{path_less, sound_sized, Slot, first_slot, held_or, value_of, FieldTyped}
 use Rattle.c_cfg.proofs.Agree.Reading.{field_typed, data_var_less, read_points, path_from, held_from}
-use Rattle.c_cfg.proofs.Agree.PointerRows.{append_on, SomeTarget, some_target, BothTarget, both_target}
+use Rattle.c_cfg.proofs.Agree.PointerRows.{append_on}
 
 -- what may meet a fault, and then an edge's leak test
 pub tested_onto : {A : Type 0} (r : Result A Fault) (f : A → Store) (k : Store → Pass)
@@ -70,13 +71,13 @@ module _ (p : Program) where
 
   pub give_sound : (s : Store) (v : VarRef) (a : Arg) → ArgFits v a → Sound p s → Gives (Sound p) (give s v a)
   give_sound s (PtrRef x) (GivenPtr (OpPath q)) e sound =
-      let both : BothTarget (target (bare x)) (target q) = both_target (target (bare x)) (target q) e in
-      onward_gives (PointsTo s.cells both.struct) (Sound p) (read s q) (λ w. Ok (set_var s x w))
-      (read_gives p s q both.struct sound (path_leads p q both.struct both.second))
-      (λ w points. path_sound p s (bare x) both.struct w sound (path_leads p (bare x) both.struct both.first) points)
+      let both = agreed (target (bare x)) (target q) e in
+      onward_gives (PointsTo s.cells both.0) (Sound p) (read s q) (λ w. Ok (set_var s x w))
+      (read_gives p s q both.0 sound (path_leads p q both.0 both.2))
+      (λ w points. path_sound p s (bare x) both.0 w sound (path_leads p (bare x) both.0 both.1) points)
   give_sound s (PtrRef x) (GivenPtr OpNull) e sound =
-      let some : SomeTarget (target (bare x)) = some_target (target (bare x)) e in
-      path_sound p s (bare x) some.struct Null sound (path_leads p (bare x) some.struct some.is) tt
+      let some = some_target (target (bare x)) e in
+      path_sound p s (bare x) some.0 Null sound (path_leads p (bare x) some.0 some.1) tt
   give_sound s (PtrRef x) (GivenData a) e sound = sound
   give_sound s (DataRef x) (GivenPtr a) e sound = sound
   give_sound s (DataRef x) (GivenData a) e sound =
@@ -224,14 +225,14 @@ module _ (p : Program) where
       pub given : (v : VarRef) (a : Arg) → ArgFits v a → (rest : List Link)
           → pass (give_links nv nd v a ++ rest) (put z Undefined) ≡ onto (give s v a) (λ t. on_from rest t (leaves a))
       given (PtrRef x) (GivenPtr (OpPath q)) e rest =
-          let both : BothTarget (target (bare x)) (target q) = both_target (target (bare x)) (target q) e in
-          path_given x (path_less p (bare x) both.struct (path_leads p (bare x) both.struct both.first)) q.var q.fields
-          both.struct (path_leads p q both.struct both.second) rest
+          let both = agreed (target (bare x)) (target q) e in
+          path_given x (path_less p (bare x) both.0 (path_leads p (bare x) both.0 both.1)) q.var q.fields
+          both.0 (path_leads p q both.0 both.2) rest
       given (PtrRef x) (GivenPtr OpNull) e rest =
-          let some : SomeTarget (target (bare x)) = some_target (target (bare x)) e in
+          let some = some_target (target (bare x)) e in
           one_set (CopyPtr x PtrNull) (set_var s x Null) rest
           (ap Passed
-          (var_sets x Null z (path_less p (bare x) some.struct (path_leads p (bare x) some.struct some.is))))
+          (var_sets x Null z (path_less p (bare x) some.0 (path_leads p (bare x) some.0 some.1))))
       given (PtrRef x) (GivenData a) e rest = absurd (true≢false (sym e))
       given (DataRef x) (GivenPtr a) e rest = absurd (true≢false (sym e))
       given (DataRef x) (GivenData a) e rest =

@@ -1,8 +1,7 @@
 -- The edges of assignments to pointers, and of `free`, do what the step does.
-use Rattle.std.proofs.Common.{◌≡◌, ◌<◌, ◌+◌, ℕ, zero, suc, true, false, if◌then◌else◌, Option, Some, None}
-use Rattle.std.proofs.Common.{is_some, true≢false, Ok}
+use Rattle.std.proofs.Common.{◌≡◌, ◌<◌, ◌+◌, ℕ, zero, suc, true, false, if◌then◌else◌, Option}
+use Rattle.std.proofs.Common.{is_some, Ok}
 use Rattle.std.proofs.Common.{List, [], ◌∷◌, ◌++◌, length, length-set, map, append-nil, refl, sym, ap, ◌∙◌, subst}
-use Rattle.std.proofs.lemmas.Bool.{eqb-true}
 use Rattle.std.proofs.lemmas.List.{length-map}
 use Rattle.fore_base.specs.declared.fault.Fault.TheVariants.{Leak}
 use Rattle.fore_base.specs.declared.store.Value.{Value}
@@ -17,7 +16,7 @@ use Rattle.fore_base.specs.Shapes.{targets_of}
 use Rattle.c_types.specs.declared.mode.MallocMode.{MallocMode}
 use Rattle.c_types.specs.declared.mode.MallocMode.TheVariants.{Always, MayFail}
 use Rattle.c_types.specs.declared.program.Path.{Path}
-use Rattle.c_types.specs.Program.{Program, is_target, both_targets, path_target, rhs_typed, is_typed}
+use Rattle.c_types.specs.Program.{Program, path_target, rhs_typed, is_typed}
 use Rattle.c_types.specs.Fits.{PointsTo}
 use Rattle.c_types.specs.Steps.{read, write_path, blank, makes_cell, assign_new, assign, free_path}
 use Rattle.c_types.specs.declared.program.PtrRhs.{PtrRhs}
@@ -25,6 +24,7 @@ use Rattle.c_types.proofs.WellTyped.{has_shapes_typed, has_vars_typed}
 use Rattle.c_types.specs.declared.program.PtrRhs.TheVariants.{Path as RhsPath, Null as RhsNull, New as RhsNew}
 use Rattle.c_types.proofs.CellsFit.{IsAt}
 use Rattle.c_types.proofs.Fitting.{PathLeads, path_leads, path_below, Sound, grown_sound, grown_points}
+use Rattle.c_types.proofs.StepLaws.{target_is, some_target, agreed}
 use Rattle.c_cfg.specs.declared.graph.PtrArg.TheVariants.{Var as PtrVar, Null as PtrNull}
 use Rattle.c_cfg.specs.declared.graph.Const.TheVariants.{Null as ConstNull}
 use Rattle.c_cfg.specs.declared.graph.Instr.{Instr}
@@ -48,38 +48,13 @@ set_sized nv nd s x v z = record { ptrs = length-set s.vars x v ∙ z.ptrs; datu
 
 stored_sized : (nv nd : ℕ) (s t : Store) (w : Value) (f : ℕ) (v : Value) → Sized nv nd s → store_at s w f v ≡ Ok t
     → Sized nv nd t
-stored_sized nv nd s t Null f v z e = cc
-stored_sized nv nd s t Uninit f v z e = cc
-stored_sized nv nd s t Dangling f v z e = cc
 stored_sized nv nd s t (Cell n) f v z e = let same : record s { cells = with_field s.cells n f v } ≡ t = cc in
     subst (Sized nv nd) same (record { ptrs = z.ptrs; datums = z.datums })
+stored_sized nv nd s t _ f v z e = cc
 
 pub append_on : {A : Type 0} (xs : List A) (y : A) (zs : List A) → (xs ++ y ∷ []) ++ zs ≡ xs ++ y ∷ zs
 append_on [] y zs = refl
 append_on (x ∷ xs) y zs = ap (λ ys. x ∷ ys) (append_on xs y zs)
-
--- Structs that agree
-
-pub record SomeTarget (o : Option ℕ) : Type 0 where
-  pub struct : ℕ
-  pub is : o ≡ Some struct
-
-pub some_target : (o : Option ℕ) → is_some o ≡ true → SomeTarget o
-some_target None e = absurd (true≢false (sym e))
-some_target (Some t) e = record { struct = t; is = refl }
-
-target_is : (o : Option ℕ) (t : ℕ) → is_target o t ≡ true → o ≡ Some t
-target_is None t e = absurd (true≢false (sym e))
-target_is (Some u) t e = ap Some (eqb-true u t e)
-
-pub record BothTarget (o r : Option ℕ) : Type 0 where
-  pub struct : ℕ
-  pub first : o ≡ Some struct
-  pub second : r ≡ Some struct
-
-pub both_target : (o r : Option ℕ) → both_targets o r ≡ true → BothTarget o r
-both_target None r e = absurd (true≢false (sym e))
-both_target (Some t) r e = record { struct = t; first = refl; second = target_is r t e }
 
 module _ (p : Program) (choice : ℕ) where
   abbrev nv : ℕ
@@ -342,17 +317,16 @@ module _ (p : Program) (choice : ℕ) where
     pub free_passes : (q : Path) → is_some (path_target p.shapes.structs p.vars (length p.data_vars) q) ≡ true
         → pass (free_row nv nd q) (ext0 s) ≡ done_pass (free_path s q)
     free_passes q typed =
-        let some : SomeTarget (path_target p.shapes.structs p.vars (length p.data_vars) q) =
-        some_target (path_target p.shapes.structs p.vars (length p.data_vars) q) typed in
-        let leads : PathLeads p q some.struct = path_leads p q some.struct some.is in
+        let some = some_target (path_target p.shapes.structs p.vars (length p.data_vars) q) typed in
+        let leads : PathLeads p q some.0 = path_leads p q some.0 some.1 in
         let h : ℕ = holder nv q.var q.fields in
-        path_then p s sound choice nv nd (λ v d. ext s v Uninit d Undefined) (slot0 Uninit) Undefined q some.struct
+        path_then p s sound choice nv nd (λ v d. ext s v Uninit d Undefined) (slot0 Uninit) Undefined q some.0
         leads (One (Free h) ∷ ends (used nv q.fields) [])
         ∙ onto_same (read s q)
         (λ v. pass (One (Free h) ∷ ends (used nv q.fields) []) (ext s (held q.fields v) Uninit Undefined Undefined))
         (λ v. done_pass (freed s v))
         (λ v got. freeing h q.fields v
-        (path_held p s sound choice nv nd (λ v d. ext s v Uninit d Undefined) (slot0 Uninit) Undefined q some.struct
+        (path_held p s sound choice nv nd (λ v d. ext s v Uninit d Undefined) (slot0 Uninit) Undefined q some.0
         v Undefined leads got))
         ∙ sym (onto_onward (read s q) (λ v. freed s v) settled_pass)
 
@@ -406,18 +380,18 @@ module _ (p : Program) (typed : is_typed p ≡ true) (choice : ℕ) (s : Store) 
       → links_pass p.shapes.structs choice (links_in mode (row to from)) (ext0 s)
       ≡ done_pass (assign p.shapes.structs mode s to from choice)
   set_ptr_passes to (RhsPath from) fits =
-      let both : BothTarget (target to) (target from) = both_target (target to) (target from) fits in
+      let both = agreed (target to) (target from) fits in
       ap (λ ls. links_pass p.shapes.structs choice ls (ext0 s))
       (stays mode false (row to (RhsPath from))
       (copied_plain (length p.vars) (length p.data_vars) to.var to.fields from))
-      ∙ copied p choice s sound whole to.var to.fields both.struct (path_leads p to both.struct both.first) from
-      (path_leads p from both.struct both.second)
+      ∙ copied p choice s sound whole to.var to.fields both.0 (path_leads p to both.0 both.1) from
+      (path_leads p from both.0 both.2)
   set_ptr_passes to RhsNull fits =
-      let some : SomeTarget (target to) = some_target (target to) fits in
-      let leads : PathLeads p to some.struct = path_leads p to some.struct some.is in
+      let some = some_target (target to) fits in
+      let leads : PathLeads p to some.0 = path_leads p to some.0 some.1 in
       ap (λ ls. links_pass p.shapes.structs choice ls (ext0 s))
       (stays mode false (row to RhsNull) (nulled_plain (length p.vars) (length p.data_vars) to.var to.fields))
-      ∙ nulled p choice s sound whole to.var (path_less p to some.struct leads) to.fields some.struct leads
+      ∙ nulled p choice s sound whole to.var (path_less p to some.0 leads) to.fields some.0 leads
   set_ptr_passes to (RhsNew shape) fits =
       let leads : PathLeads p to shape = path_leads p to shape (target_is (target to) shape fits) in
       let less : shape < length p.shapes.structs =

@@ -1,6 +1,6 @@
 -- The edges of a comparison: its loads, the two edges of the test, and the Kill on each side.
 use Rattle.std.proofs.Common.{◌≡◌, ◌+◌, ℕ, Bool, true, false, ◌&&◌, Result, Ok, Err, List, [], ◌++◌, length, refl, sym}
-use Rattle.std.proofs.Common.{ap, ◌∙◌}
+use Rattle.std.proofs.Common.{ap, ◌∙◌, Some}
 use Rattle.std.proofs.lemmas.Bool.{and_parts}
 use Rattle.fore_base.specs.declared.fault.Fault.{Fault}
 use Rattle.fore_base.specs.declared.store.Value.{Value}
@@ -17,6 +17,7 @@ use Rattle.c_types.specs.declared.program.DataOp.TheVariants.{Path as DataOpPath
 use Rattle.c_types.specs.Program.{Program, path_target, data_op_typed, ops_typed}
 use Rattle.c_types.specs.Steps.{read_op, read_data_op, same_values, same_datums}
 use Rattle.c_types.proofs.Fitting.{path_leads, Sound}
+use Rattle.c_types.proofs.StepLaws.{some_target, agreed}
 use Rattle.c_cfg.specs.declared.graph.Instr.{Instr}
 use Rattle.c_cfg.specs.Edges.{Pass, Passed, Faulted, onto, if_agreed, arg_of, data_arg_of, raw_step}
 use Rattle.c_cfg.specs.Links.{Link, op_loads, op_arg, op_used, data_op_loads, data_op_arg, op_base_used, op_data_used}
@@ -28,7 +29,6 @@ use Rattle.c_cfg.proofs.Agree.Reading.{sound_sized, Slot, first_slot, second_slo
 use Rattle.c_cfg.proofs.Agree.Reading.{datum_held}
 use Rattle.c_cfg.proofs.Agree.Dying.{all_cleared, op_held, op_base_held, op_data_held, op_cleared, op_base_cleared}
 use Rattle.c_cfg.proofs.Agree.Dying.{op_data_cleared}
-use Rattle.c_cfg.proofs.Agree.PointerRows.{SomeTarget, some_target, BothTarget, both_target}
 
 -- a comparison's links on a store between the steps: a fault when the operands are read, or both edges of the test on
 -- the store that was read
@@ -93,26 +93,25 @@ module _ (p : Program) (choice : ℕ) (s : Store) (sound : Sound p s) (whole : l
   -- Pointers
 
   abbrev OpLeads : PtrOp → Type 0
-  OpLeads (OpPath q) = SomeTarget (path_target p.shapes.structs p.vars (length p.data_vars) q)
+  OpLeads (OpPath q) = (t : ℕ) × (path_target p.shapes.structs p.vars (length p.data_vars) q ≡ Some t)
   OpLeads OpNull = Unit {0}
 
   op_read : (t d : ℕ) (put : Value → Datum → Store) → Slot nv nd s t d put → (e : Datum) (q : PtrOp) → OpLeads q
       → links (op_loads t q) (put Uninit e) ≡ onto (read_op s q) (λ v. Passed (put (op_held q v) e))
   op_read t d put slot e (OpPath q) some =
-      path_read p s sound choice t d put slot e q some.struct (path_leads p q some.struct some.is)
+      path_read p s sound choice t d put slot e q some.0 (path_leads p q some.0 some.1)
   op_read t d put slot e OpNull some = refl
 
   op_holds : (t d : ℕ) (put : Value → Datum → Store) → Slot nv nd s t d put → (e : Datum) (q : PtrOp) → OpLeads q
       → (v : Value) → read_op s q ≡ Ok v → arg_of (put (op_held q v) e) (op_arg t q) ≡ v
   op_holds t d put slot e (OpPath q) some v got =
-      path_held p s sound choice t d put slot e q some.struct v e (path_leads p q some.struct some.is) got
+      path_held p s sound choice t d put slot e q some.0 v e (path_leads p q some.0 some.1) got
   op_holds t d put slot e OpNull some v got = let same : Null ≡ v = cc in same
 
   both_lead : (l r : PtrOp) → ops_typed p.shapes.structs p.vars (length p.data_vars) l r ≡ true → OpLeads l × OpLeads r
   both_lead (OpPath q) (OpPath r) typed =
-      let both : BothTarget (path_target p.shapes.structs p.vars (length p.data_vars) q)
-      (path_target p.shapes.structs p.vars (length p.data_vars) r) = both_target _ _ typed in
-      (record { struct = both.struct; is = both.first }, record { struct = both.struct; is = both.second })
+      let both = agreed (path_target p.shapes.structs p.vars (length p.data_vars) q)
+      (path_target p.shapes.structs p.vars (length p.data_vars) r) typed in ((both.0, both.1), (both.0, both.2))
   both_lead (OpPath q) OpNull typed = (some_target _ typed, tt)
   both_lead OpNull (OpPath r) typed = (tt, some_target _ typed)
   both_lead OpNull OpNull typed = (tt, tt)

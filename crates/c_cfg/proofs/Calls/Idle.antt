@@ -5,7 +5,6 @@ use Rattle.fore_base.specs.declared.fault.Fault.{Fault}
 use Rattle.fore_base.specs.declared.store.Store.{Store}
 use Rattle.fore_base.specs.Lists.{IsIn}
 use Rattle.fore_base.specs.Stores.{kill}
-use Rattle.fore_base.specs.Heap.{leaks}
 use Rattle.fore_base.proofs.ListLemmas.{in_left, in_right, in_append, place_of}
 use Rattle.c_types.specs.declared.mode.MallocMode.{MallocMode}
 use Rattle.c_types.specs.declared.program.VarRef.{VarRef}
@@ -14,53 +13,24 @@ use Rattle.c_types.specs.declared.program.Arg.{Arg}
 use Rattle.c_types.specs.declared.program.Dest.{Dest}
 use Rattle.c_types.specs.declared.program.Dest.TheVariants.{Ptr as PtrDest, Data as DataDest}
 use Rattle.c_types.specs.declared.program.Act.{Act}
-use Rattle.c_types.specs.declared.program.Act.TheVariants.{SetPtr, SetData, Free, Error, Halt, Return, Break, Continue}
-use Rattle.c_types.specs.declared.program.Act.TheVariants.{Leave as LeaveAct}
+use Rattle.c_types.specs.declared.program.Act.TheVariants.{SetPtr, SetData, Free, Return, Break, Continue}
 use Rattle.c_types.specs.Program.{Program, is_typed}
 use Rattle.c_types.specs.Bodies.{is_among}
-use Rattle.c_types.specs.Control.{Items, Done, Do, Close, If, Loop, Again, DoLoop, DoAgain, Ask, Not, Both, Either}
-use Rattle.c_types.specs.Control.{Enter, Leave, Exit, ◌then◌, after_again, from_again, from_exit, closed_ptrs}
+use Rattle.c_types.specs.Control.{Items, Done, Do, Close, If, Loop, Again, DoLoop, DoAgain, Ask}
+use Rattle.c_types.specs.Control.{Enter, Leave, Exit, after_again, from_again, from_exit, closed_ptrs}
 use Rattle.c_types.specs.Control.{closed_datums}
-use Rattle.c_types.specs.Steps.{assign, assign_data, free_path, look_at, all_dead, enter, leave, exit, atom_of, settle}
-use Rattle.c_types.specs.Steps.{settled, finished, test_turn, act_turn, turn_of}
+use Rattle.c_types.specs.Steps.{assign, assign_data, free_path, look_at, enter, leave, exit, atom_of}
+use Rattle.c_types.specs.Steps.{settled, act_turn, turn_of}
 use Rattle.c_types.specs.Fits.{EnterFits, LeaveFits}
 use Rattle.c_types.proofs.Fitting.{Gives}
-use Rattle.c_types.proofs.StepLaws.{TurnGives}
+use Rattle.c_types.proofs.StepLaws.{TurnGives, settle_gives, finished_gives, test_gives}
 use Rattle.c_cfg.proofs.Ranged.{Ranged, then_ranged, after_ranged, from_ranged, exit_ranged}
 use Rattle.c_cfg.proofs.Calls.OpenCalls.{open_vars, exit_open}
 use Rattle.c_cfg.proofs.Calls.Params.{IsParam, in_among, among_in, result_foreign}
-use Rattle.c_cfg.proofs.Calls.Homes.{ActHomed, DestHomed, EnterHomed, Homed}
+use Rattle.c_cfg.proofs.Calls.Homes.{ActHomed, DestHomed, Homed}
 use Rattle.c_cfg.proofs.Calls.Safe.{Safe, kill_safe, assign_safe, assign_data_safe, free_safe, enter_safe, leave_safe}
 use Rattle.c_cfg.proofs.Calls.Safe.{IsTarget, exit_safe, exit_dead}
 use Rattle.c_cfg.proofs.Agree.CallRows.{AreFree}
-
--- what a turn goes on with
-
-settle_gives : (P : Items → Store → Type 0) (s : Store) (is : Items) → P is s → TurnGives P (settle s is)
-settle_gives P s is this = here (leaks s) refl
-  where
-    here : (b : Bool) → leaks s ≡ b → TurnGives P (settle s is)
-    here true leak = rw leak tt
-    here false fine = rw fine this
-
-settled_gives : (P : Items → Store → Type 0) (r : Result Store Fault) (is : Items) → ((t : Store) → r ≡ Ok t → P is t)
-    → TurnGives P (settled r is)
-settled_gives P (Ok s) is this = settle_gives P s is (this s refl)
-settled_gives P (Err k) is this = tt
-
-finished_gives : (P : Items → Store → Type 0) (r : Result Store Fault) → TurnGives P (finished r)
-finished_gives P (Err k) = tt
-finished_gives P (Ok s) = here (leaks (all_dead s)) refl
-  where
-    here : (b : Bool) → leaks (all_dead s) ≡ b → TurnGives P (finished (Ok s))
-    here true leak = rw leak tt
-    here false fine = rw fine tt
-
-test_gives : (P : Items → Store → Type 0) (r : Result Bool Fault) (x y is : Items) (s : Store) → P (x then is) s
-    → P (y then is) s → TurnGives P (test_turn r x y is s)
-test_gives P (Ok true) x y is s yes_on no_on = settle_gives P s (x then is) yes_on
-test_gives P (Ok false) x y is s yes_on no_on = settle_gives P s (y then is) no_on
-test_gives P (Err k) x y is s yes_on no_on = tt
 
 module _ (p : Program) (typed : is_typed p ≡ true) where
   -- where these are open, a parameter that is none of them holds no cell
@@ -71,9 +41,12 @@ module _ (p : Program) (typed : is_typed p ≡ true) where
   abbrev pub Kept : Items → Store → Type 0
   Kept js t = Ranged p js × Idle (open_vars 0 js) t
 
-  kept_on : (us : List VarRef) (r : Result Store Fault)
-      → ((x : ℕ) → IsParam p.funcs x → (IsIn (PtrVar x) us → ⊥) → Gives (Safe x) r) → (t : Store) → r ≡ Ok t → Idle us t
-  kept_on us r h t e = λ x param absent. subst (λ q. Gives (Safe x) q) e (h x param absent)
+  -- a step goes on with these items, in a store in which each parameter that is not open is safe
+  goes_on : (us : List VarRef) (r : Result Store Fault) (js : Items) → Ranged p js → open_vars 0 js ≡ us
+      → ((x : ℕ) → IsParam p.funcs x → (IsIn (PtrVar x) us → ⊥) → Gives (Safe x) r) → TurnGives Kept (settled r js)
+  goes_on us (Ok t) js ranged opens safe =
+      settle_gives Kept t js (ranged, subst (λ vs. Idle vs t) (sym opens) safe)
+  goes_on us (Err k) js ranged opens safe = tt
 
   killed : (us : List VarRef) (ps ds : List ℕ) (s : Store) → Idle us s → Idle us (kill ps ds s)
   killed us ps ds s idle = λ x param absent. kill_safe x ps ds s (idle x param absent)
@@ -81,33 +54,18 @@ module _ (p : Program) (typed : is_typed p ≡ true) where
   act_keeps : (mode : MallocMode) (a : Act) (is : Items) (s : Store) (c : ℕ) → Ranged p is → ActHomed p a is
       → Idle (open_vars 0 is) s → TurnGives Kept (act_turn p.shapes.structs mode a is s c)
   act_keeps mode (SetPtr to from) is s c ranged homed idle =
-      settled_gives Kept (assign p.shapes.structs mode s to from c) is
-      (λ t e. (
-        ranged,
-        kept_on (open_vars 0 is) (assign p.shapes.structs mode s to from c)
-            (λ x param absent. assign_safe x p.shapes.structs mode s to from c
-            (λ same. absent
-            (subst (λ y. IsIn (PtrVar y) (open_vars 0 is)) (sym same) (homed (subst (IsParam p.funcs) same param))))
-            (idle x param absent)) t e,
-      ))
+      goes_on (open_vars 0 is) (assign p.shapes.structs mode s to from c) is ranged refl
+      (λ x param absent. assign_safe x p.shapes.structs mode s to from c
+      (λ same. absent
+      (subst (λ y. IsIn (PtrVar y) (open_vars 0 is)) (sym same) (homed (subst (IsParam p.funcs) same param))))
+      (idle x param absent))
   act_keeps mode (SetData to from) is s c ranged homed idle =
-      settled_gives Kept (assign_data s to from c) is
-      (λ t e. (
-        ranged,
-        kept_on (open_vars 0 is) (assign_data s to from c)
-            (λ x param absent. assign_data_safe x s to from c (idle x param absent)) t e,
-      ))
+      goes_on (open_vars 0 is) (assign_data s to from c) is ranged refl
+      (λ x param absent. assign_data_safe x s to from c (idle x param absent))
   act_keeps mode (Free q) is s c ranged homed idle =
-      settled_gives Kept (free_path s q) is
-      (λ t e. (
-        ranged,
-        kept_on (open_vars 0 is) (free_path s q)
-            (λ x param absent. free_safe x s q (idle x param absent)) t e,
-      ))
-  act_keeps mode Error is s c ranged homed idle = tt
-  act_keeps mode Halt is s c ranged homed idle = tt
+      goes_on (open_vars 0 is) (free_path s q) is ranged refl
+      (λ x param absent. free_safe x s q (idle x param absent))
   act_keeps mode (Return operand) is s c ranged homed idle = finished_gives Kept (look_at s operand)
-  act_keeps mode (LeaveAct f value) is s c ranged homed idle = tt
   act_keeps mode Break is s c ranged homed idle =
       settle_gives Kept (kill (closed_ptrs is) (closed_datums is) s) (after_again is) (
         after_ranged p is ranged,
@@ -120,16 +78,7 @@ module _ (p : Program) (typed : is_typed p ≡ true) where
         subst (λ us. Idle us (kill (closed_ptrs is) (closed_datums is) s)) (sym homed)
             (killed (open_vars 0 is) (closed_ptrs is) (closed_datums is) s idle),
       )
-
-  -- a call begins
-
-  enter_keeps : (vs : List VarRef) (ws : List Arg) (is : Items) (s : Store) → EnterHomed p vs is
-      → Idle (open_vars 1 is) s → (t : Store) → enter s vs ws ≡ Ok t → Idle (open_vars 0 is) t
-  enter_keeps vs ws is s homed idle t e =
-      subst (λ us. Idle us t) (sym homed.opens)
-      (kept_on (vs ++ open_vars 1 is) (enter s vs ws)
-      (λ x param absent. enter_safe x s vs ws (λ i. absent (in_left (PtrVar x) vs (open_vars 1 is) i))
-      (idle x param (λ i. absent (in_right (PtrVar x) vs (open_vars 1 is) i)))) t e)
+  act_keeps mode _ is s c ranged homed idle = tt
 
   -- what is given to the result is no parameter
   leave_other : (v : Option VarRef) (vs : List VarRef) (a : Option Arg) → LeaveFits p v vs a → (x : ℕ)
@@ -145,15 +94,13 @@ module _ (p : Program) (typed : is_typed p ≡ true) where
   target_open (Some (DataDest q)) is x homed param this = absurd this
 
   exit_keeps : (v : Option VarRef) (vs : List VarRef) (d : Option Dest) (is : Items) (s : Store) → DestHomed p d is
-      → Idle (vs ++ open_vars 0 is) s → (t : Store) → exit s v vs d ≡ Ok t → Idle (open_vars 0 is) t
-  exit_keeps v vs d is s homed idle = kept_on (open_vars 0 is) (exit s v vs d)
-      (λ x param absent. by x param absent (is_among vs (PtrVar x)) refl)
+      → Idle (vs ++ open_vars 0 is) s → (x : ℕ) → IsParam p.funcs x → (IsIn (PtrVar x) (open_vars 0 is) → ⊥)
+      → Gives (Safe x) (exit s v vs d)
+  exit_keeps v vs d is s homed idle x param absent = by (is_among vs (PtrVar x)) refl
     where
-      by : (x : ℕ) → IsParam p.funcs x → (IsIn (PtrVar x) (open_vars 0 is) → ⊥) → (b : Bool)
-          → is_among vs (PtrVar x) ≡ b → Gives (Safe x) (exit s v vs d)
-      by x param absent true among = exit_dead x s v vs d (among_in vs (PtrVar x) among)
-      by x param absent false among =
-          exit_safe x s v vs d (λ this. absent (target_open d is x homed param this))
+      by : (b : Bool) → is_among vs (PtrVar x) ≡ b → Gives (Safe x) (exit s v vs d)
+      by true among = exit_dead x s v vs d (among_in vs (PtrVar x) among)
+      by false among = exit_safe x s v vs d (λ this. absent (target_open d is x homed param this))
           (idle x param (λ i. elim (in_append (PtrVar x) vs (open_vars 0 is) i) [
             | inl j ↦ true≢false (sym (in_among vs (PtrVar x) j) ∙ among)
             | inr j ↦ absent j
@@ -161,7 +108,6 @@ module _ (p : Program) (typed : is_typed p ≡ true) where
 
   pub step_keeps_idle : (mode : MallocMode) (o : Items) (s : Store) (c : ℕ) → Ranged p o → Homed p o
       → Idle (open_vars 0 o) s → TurnGives Kept (turn_of p.shapes.structs mode o s c)
-  step_keeps_idle mode Done s c h k idle = tt
   step_keeps_idle mode (Do a m is) s c h k idle = act_keeps mode a is s c h.1 k idle
   step_keeps_idle mode (Close ps ds m is) s c h k idle =
       settle_gives Kept (kill ps ds s) is (h.2, killed (open_vars 0 is) ps ds s idle)
@@ -169,24 +115,16 @@ module _ (p : Program) (typed : is_typed p ≡ true) where
       test_gives Kept (atom_of a s c) x y is s
       (then_ranged p x is h.1 h.3, subst (λ us. Idle us s) (sym (h.4 0 is)) idle)
       (then_ranged p y is h.2 h.3, subst (λ us. Idle us s) (sym (h.5 0 is)) idle)
-  step_keeps_idle mode (If (Not d) x y is) s c h k idle = tt
-  step_keeps_idle mode (If (Both d e) x y is) s c h k idle = tt
-  step_keeps_idle mode (If (Either d e) x y is) s c h k idle = tt
-  step_keeps_idle mode (Loop d n b is) s c h k idle = tt
-  step_keeps_idle mode (Again d n b is) s c h k idle = tt
-  step_keeps_idle mode (DoLoop d b is) s c h k idle = tt
-  step_keeps_idle mode (DoAgain d b is) s c h k idle = tt
   step_keeps_idle mode (Enter vs ws m is) s c h k idle =
-      settled_gives Kept (enter s vs ws) is (λ t e. (h.1, enter_keeps vs ws is s k idle t e))
+      goes_on (vs ++ open_vars 1 is) (enter s vs ws) is h.1 k.opens
+      (λ x param absent. enter_safe x s vs ws (λ i. absent (in_left (PtrVar x) vs (open_vars 1 is) i))
+      (idle x param (λ i. absent (in_right (PtrVar x) vs (open_vars 1 is) i))))
   step_keeps_idle mode (Leave v vs a m is) s c h k idle =
-      settled_gives Kept (leave s v vs a) (from_exit is) (λ t e. (
-        exit_ranged p is h.1,
-        subst (λ us. Idle us t) (sym (exit_open 0 is))
-            (kept_on (open_vars 0 is) (leave s v vs a)
-            (λ x param absent. leave_safe x s v vs a (leave_other v vs a h.0 x param) (idle x param absent)) t e),
-      ))
+      goes_on (open_vars 0 is) (leave s v vs a) (from_exit is) (exit_ranged p is h.1) (exit_open 0 is)
+      (λ x param absent. leave_safe x s v vs a (leave_other v vs a h.0 x param) (idle x param absent))
   step_keeps_idle mode (Exit v vs d m is) s c h k idle =
-      settled_gives Kept (exit s v vs d) is (λ t e. (h.1, exit_keeps v vs d is s k idle t e))
+      goes_on (open_vars 0 is) (exit s v vs d) is h.1 refl (exit_keeps v vs d is s k idle)
+  step_keeps_idle mode _ s c h k idle = tt
 
   -- where a call may begin, its parameters hold no cell
 
@@ -215,14 +153,5 @@ module _ (p : Program) (typed : is_typed p ≡ true) where
       }
 
   pub idle_free : (o : Items) (s : Store) → Ranged p o → Homed p o → Idle (open_vars 0 o) s → FreeAt o s
-  idle_free Done s h k idle = tt
-  idle_free (Do a m is) s h k idle = tt
-  idle_free (Close ps ds m is) s h k idle = tt
-  idle_free (If c x y is) s h k idle = tt
-  idle_free (Loop c n b is) s h k idle = tt
-  idle_free (Again c n b is) s h k idle = tt
-  idle_free (DoLoop c b is) s h k idle = tt
-  idle_free (DoAgain c b is) s h k idle = tt
   idle_free (Enter vs ws m is) s h k idle = λ x i. idle x (own_param vs ws h.0 x i) (k.apart x i)
-  idle_free (Leave v vs a m is) s h k idle = tt
-  idle_free (Exit v vs d m is) s h k idle = tt
+  idle_free _ s h k idle = tt

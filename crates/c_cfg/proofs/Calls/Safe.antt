@@ -31,26 +31,16 @@ use Rattle.c_types.specs.Steps.{hand_over, exit}
 use Rattle.c_types.specs.Losses.{is_cell}
 use Rattle.c_types.specs.Runs.{empty_store}
 use Rattle.c_types.proofs.Fitting.{Gives, onward_gives}
-use Rattle.c_types.proofs.LeakKept.{write_from_vars, store_datum_vars}
+use Rattle.c_types.proofs.LeakKept.{unset_at, write_from_vars, store_datum_vars}
 use Rattle.c_cfg.proofs.Agree.Given.{always}
 
 -- Lists of values
 
 other_item : (vs : List Value) (y x : ℕ) (v : Value) → (x ≡ y → ⊥) → slice_index_or (slice_set vs y v) x Uninit
     ≡ slice_index_or vs x Uninit
-other_item [] y x v differ = refl
 other_item (w ∷ vs) zero zero v differ = absurd (differ refl)
-other_item (w ∷ vs) zero (suc x) v differ = refl
-other_item (w ∷ vs) (suc y) zero v differ = refl
 other_item (w ∷ vs) (suc y) (suc x) v differ = other_item vs y x v (λ e. differ (ap suc e))
-
-unset_item : (vs : List Value) (y x : ℕ) → is_cell (slice_index_or vs x Uninit) ≡ false
-    → is_cell (slice_index_or (slice_set vs y Uninit) x Uninit) ≡ false
-unset_item [] y x e = e
-unset_item (w ∷ vs) zero zero e = refl
-unset_item (w ∷ vs) zero (suc x) e = e
-unset_item (w ∷ vs) (suc y) zero e = e
-unset_item (w ∷ vs) (suc y) (suc x) e = unset_item vs y x e
+other_item _ _ _ v differ = refl
 
 dead_item : (vs : List Value) (x : ℕ) → is_cell (slice_index_or (slice_set vs x Uninit) x Uninit) ≡ false
 dead_item [] x = refl
@@ -60,7 +50,7 @@ dead_item (w ∷ vs) (suc x) = dead_item vs x
 unset_each : (vs : List Value) (ys : List ℕ) (x : ℕ) → is_cell (slice_index_or vs x Uninit) ≡ false
     → is_cell (slice_index_or (set_each vs ys Uninit) x Uninit) ≡ false
 unset_each vs [] x e = e
-unset_each vs (y ∷ ys) x e = unset_each (slice_set vs y Uninit) ys x (unset_item vs y x e)
+unset_each vs (y ∷ ys) x e = unset_each (slice_set vs y Uninit) ys x (unset_at vs y x e)
 
 dead_each : (vs : List Value) (ys : List ℕ) (x : ℕ) → IsIn x ys
     → is_cell (slice_index_or (set_each vs ys Uninit) x Uninit) ≡ false
@@ -71,10 +61,8 @@ dead_each vs (y ∷ ys) x (inl e) =
 dead_each vs (y ∷ ys) x (inr i) = dead_each (slice_set vs y Uninit) ys x i
 
 dangle_free : (n : ℕ) (v : Value) → is_cell v ≡ false → is_cell (dangle n v) ≡ false
-dangle_free n Null e = refl
-dangle_free n Uninit e = refl
-dangle_free n Dangling e = refl
 dangle_free n (Cell m) e = absurd (true≢false e)
+dangle_free n _ e = refl
 
 dangle_each : (n : ℕ) (vs : List Value) (x : ℕ) → is_cell (slice_index_or vs x Uninit) ≡ false
     → is_cell (slice_index_or (map (dangle n) vs) x Uninit) ≡ false
@@ -232,12 +220,9 @@ module _ (x : ℕ) where
 
   hand_safe : (s : Store) (v : Option VarRef) (d : Option Dest) → (IsTarget d → ⊥) → Safe x s
       → SafeAfter (hand_over s v d)
-  hand_safe s None d other e = e
-  hand_safe s (Some v) None other e = e
   hand_safe s (Some (PtrVar y)) (Some (PtrDest q)) other e = path_safe s q.var q.fields (var_of s y) other e
-  hand_safe s (Some (PtrVar y)) (Some (DataDest q)) other e = e
-  hand_safe s (Some (DatumVar y)) (Some (PtrDest q)) other e = e
   hand_safe s (Some (DatumVar y)) (Some (DataDest q)) other e = data_safe s q _ e
+  hand_safe s _ _ other e = e
 
   pub exit_safe : (s : Store) (v : Option VarRef) (vs : List VarRef) (d : Option Dest) → (IsTarget d → ⊥) → Safe x s
       → SafeAfter (exit s v vs d)
