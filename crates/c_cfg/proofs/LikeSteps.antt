@@ -123,14 +123,12 @@ module _ (to : ℕ → ℕ) (all : List CellRec) (one : (m n : ℕ) → HasCell 
       here false e = ap (λ ds. ren c ∷ ds) e
 
   dangle_renamed : (n : ℕ) → HasCell all n → (v : Value) → NamesCell all v → dangle (to n) (val v) ≡ val (dangle n v)
-  dangle_renamed n hn Null h = refl
-  dangle_renamed n hn Uninit h = refl
-  dangle_renamed n hn Dangling h = refl
   dangle_renamed n hn (Cell m) h = rw (same_number m n h hn) (here (nat_eq m n))
     where
       here : (b : Bool) → (if b then Dangling else Cell (to m)) ≡ val (if b then Dangling else Cell m)
       here true = refl
       here false = refl
+  dangle_renamed n hn _ h = refl
 
   dangles_renamed : (n : ℕ) → HasCell all n → (vs : List Value) → Every (NamesCell all) vs
       → map (dangle (to n)) (map val vs) ≡ map val (map (dangle n) vs)
@@ -182,10 +180,8 @@ there_same None K J h = tt
 
 follow_like : (to : ℕ → ℕ) (v : Value) (K J : ℕ → Pass) → ((n : ℕ) → v ≡ Cell n → LikePass (K n) (J (to n)))
     → LikePass (onto (followed v) K) (onto (followed (value_renamed to v)) J)
-follow_like to Null K J h = refl
-follow_like to Uninit K J h = refl
-follow_like to Dangling K J h = refl
 follow_like to (Cell n) K J h = h n refl
+follow_like to _ K J h = refl
 
 if_like : (b : Bool) (p q : Pass) → LikePass p q → LikePass (if b then p else NotPassed) (if b then q else NotPassed)
 if_like true p q h = h
@@ -244,24 +240,15 @@ module _ (shapes : List Shape) (s t : Store) (a : IsAlike s t) (ps : IsProper s)
 
   stand_like : (n f : ℕ) (v : Value) → HasCell s.cells n → NamesCell s.cells v
       → may_stand shapes t.cells (a.to n) f (v_of v) ≡ may_stand shapes s.cells n f v
-  stand_like n f Null hn hv = refl
-  stand_like n f Uninit hn hv = refl
-  stand_like n f Dangling hn hv = refl
   stand_like n f (Cell m) hn hv =
       ap₂ (λ x y. same_struct x (target_of shapes y f)) (struct_like m hv) (struct_like n hn)
+  stand_like n f _ hn hv = refl
 
   values_like : (v w : Value) → NamesCell s.cells v → NamesCell s.cells w → same_values (v_of v) (v_of w)
       ≡ same_values v w
-  values_like Uninit w hv hw = refl
-  values_like Dangling w hv hw = refl
-  values_like Null Uninit hv hw = refl
-  values_like Null Dangling hv hw = refl
-  values_like Null Null hv hw = refl
-  values_like Null (Cell m) hv hw = refl
-  values_like (Cell n) Uninit hv hw = refl
-  values_like (Cell n) Dangling hv hw = refl
-  values_like (Cell n) Null hv hw = refl
   values_like (Cell n) (Cell m) hv hw = ap Ok (same_number a.to s.cells a.one_to_one n m hv hw)
+  values_like Null (Cell m) hv hw = refl
+  values_like _ _ hv hw = refl
 
   pointed : (x n : ℕ) → var_of s x ≡ Cell n → HasCell s.cells n
   pointed x n e = subst (NamesCell s.cells) e (var_named s.cells s.vars x ps.vars)
@@ -303,42 +290,39 @@ module _ (shapes : List Shape) (s t : Store) (a : IsAlike s t) (ps : IsProper s)
       here false rest (inl e) = inl e
       here false rest (inr h) = inr (rest h)
 
-  put_like : (g h : CellRec → CellRec) → ((c : CellRec) → g (c_of c) ≡ c_of (h c))
-      → ((c : CellRec) → (h c).number ≡ c.number) → (n : ℕ) → HasCell s.cells n
-      → IsAlike (record s { cells = put h s.cells n }) (record t { cells = put g t.cells (a.to n) })
-  put_like g h each keeps n hn = record {
-    to = a.to;
-    one_to_one = λ m k hm hk e. a.one_to_one m k (has_put h keeps s.cells n m hm) (has_put h keeps s.cells n k hk) e;
-    vars = a.vars;
-    data_vars = a.data_vars;
-    cells =
-        permuted
-        (subst (λ cs. Moved cs (put g t.cells (a.to n)))
-        (put_renamed a.to s.cells a.one_to_one g h each s.cells itself n hn) (moved_put g (a.to n) to_t differ_s));
-  }
+  -- a cell changes on each side, and keeps its number
+  put_like : (g h : CellRec → CellRec) (xs ys : List CellRec) → ((c : CellRec) → g (c_of c) ≡ c_of (h c))
+      → ((c : CellRec) → (h c).number ≡ c.number) → (n : ℕ) → HasCell s.cells n → xs ≡ put h s.cells n
+      → ys ≡ put g t.cells (a.to n) → IsAlike (record s { cells = xs }) (record t { cells = ys })
+  put_like g h xs ys each keeps n hn left right =
+      subst (λ cs. IsAlike (record s { cells = cs }) (record t { cells = ys })) (sym left)
+      (subst (λ cs. IsAlike (record s { cells = put h s.cells n }) (record t { cells = cs })) (sym right)
+      (record {
+        to = a.to;
+        one_to_one = λ m k hm hk e.
+            a.one_to_one m k (has_put h keeps s.cells n m hm) (has_put h keeps s.cells n k hk) e;
+        vars = a.vars;
+        data_vars = a.data_vars;
+        cells =
+            permuted
+            (subst (λ cs. Moved cs (put g t.cells (a.to n)))
+            (put_renamed a.to s.cells a.one_to_one g h each s.cells itself n hn) (moved_put g (a.to n) to_t differ_s));
+      }))
 
   field_set_like : (n f : ℕ) (v w : Value) → HasCell s.cells n → w ≡ v_of v
       → IsAlike (record s { cells = with_field s.cells n f v }) (record t { cells = with_field t.cells (a.to n) f w })
   field_set_like n f v w hn e =
-      subst (λ cs. IsAlike (record s { cells = cs }) (record t { cells = with_field t.cells (a.to n) f w }))
-      (sym (with_put s.cells n f v))
-      (subst
-      (λ cs. IsAlike (record s { cells = put (λ c. record c { fields = slice_set c.fields f v }) s.cells n })
-      (record t { cells = cs })) (sym (with_put t.cells (a.to n) f w))
-      (put_like (λ c. record c { fields = slice_set c.fields f w }) (λ c. record c { fields = slice_set c.fields f v })
-      (λ c. ap (λ fs. record (c_of c) { fields = fs })
-      (ap (λ z. slice_set (map v_of c.fields) f z) e ∙ sym (map-set v_of c.fields f v))) (λ c. refl) n hn))
+      put_like (λ c. record c { fields = slice_set c.fields f w }) (λ c. record c { fields = slice_set c.fields f v }) _
+      _ (λ c. ap (λ fs. record (c_of c) { fields = fs })
+      (ap (λ z. slice_set (map v_of c.fields) f z) e ∙ sym (map-set v_of c.fields f v))) (λ c. refl) n hn
+      (with_put s.cells n f v) (with_put t.cells (a.to n) f w)
 
   field_datum_like : (n f : ℕ) (d e : Datum) → HasCell s.cells n → e ≡ d
       → IsAlike (record s { cells = with_datum s.cells n f d }) (record t { cells = with_datum t.cells (a.to n) f e })
   field_datum_like n f d e hn h =
-      subst (λ cs. IsAlike (record s { cells = cs }) (record t { cells = with_datum t.cells (a.to n) f e }))
-      (sym (with_datum_put s.cells n f d))
-      (subst
-      (λ cs. IsAlike (record s { cells = put (λ c. record c { datums = slice_set c.datums f d }) s.cells n })
-      (record t { cells = cs })) (sym (with_datum_put t.cells (a.to n) f e))
-      (put_like (λ c. record c { datums = slice_set c.datums f e }) (λ c. record c { datums = slice_set c.datums f d })
-      (λ c. ap (λ z. record (c_of c) { datums = slice_set c.datums f z }) h) (λ c. refl) n hn))
+      put_like (λ c. record c { datums = slice_set c.datums f e }) (λ c. record c { datums = slice_set c.datums f d }) _
+      _ (λ c. ap (λ z. record (c_of c) { datums = slice_set c.datums f z }) h) (λ c. refl) n hn
+      (with_datum_put s.cells n f d) (with_datum_put t.cells (a.to n) f e)
 
   kill_like : (xs ys : List ℕ) → IsAlike (kill xs ys s) (kill xs ys t)
   kill_like xs ys = record {
@@ -385,10 +369,8 @@ module _ (shapes : List Shape) (s t : Store) (a : IsAlike s t) (ps : IsProper s)
   new_number = rw (eq-eqb s.next s.next refl) refl
 
   value_old : (v : Value) → NamesCell s.cells v → value_renamed next_to v ≡ v_of v
-  value_old Null h = refl
-  value_old Uninit h = refl
-  value_old Dangling h = refl
   value_old (Cell m) h = ap Cell (old_number m h)
+  value_old _ h = refl
 
   values_old : (vs : List Value) → Every (NamesCell s.cells) vs → map (value_renamed next_to) vs ≡ map v_of vs
   values_old [] h = refl
@@ -529,21 +511,10 @@ tested_like (Passed s) (Passed t) ps a = rw (sym (leaks_alike s t a ps)) (here (
     here : (b : Bool) → LikePass (if b then Faulted Leak else Passed s) (if b then Faulted Leak else Passed t)
     here true = refl
     here false = a
-tested_like (Passed s) (Faulted k) ps h = absurd h
-tested_like (Passed s) Halted ps h = absurd h
-tested_like (Passed s) NotPassed ps h = absurd h
-tested_like (Faulted k) (Passed t) ps h = absurd h
 tested_like (Faulted k) (Faulted j) ps h = h
-tested_like (Faulted k) Halted ps h = absurd h
-tested_like (Faulted k) NotPassed ps h = absurd h
-tested_like Halted (Passed t) ps h = absurd h
-tested_like Halted (Faulted j) ps h = absurd h
 tested_like Halted Halted ps h = tt
-tested_like Halted NotPassed ps h = absurd h
-tested_like NotPassed (Passed t) ps h = absurd h
-tested_like NotPassed (Faulted j) ps h = absurd h
-tested_like NotPassed Halted ps h = absurd h
 tested_like NotPassed NotPassed ps h = tt
+tested_like _ _ ps h = absurd h
 
 pub steps_alike : (shapes : List Shape) (e : Edge) (s t : Store) → IsProper s → IsProper t → IsAlike s t
     → LikePass (gstep shapes e s) (gstep shapes e t)

@@ -1,7 +1,7 @@
 -- An edge keeps a store proper.
 use Rattle.std.proofs.Common.{◌≡◌, inl, inr, ℕ, zero, suc, Bool, true, false, nat_eq, if◌then◌else◌, List, [], ◌∷◌}
-use Rattle.std.proofs.Common.{◌++◌, length, map, slice_get, slice_set, slice_index_or, refl, sym, subst, Option, Some}
-use Rattle.std.proofs.Common.{None, Result, Ok, Err}
+use Rattle.std.proofs.Common.{◌++◌, length, map, slice_get, slice_set, slice_index_or, refl, sym, ◌∙◌, subst, Option}
+use Rattle.std.proofs.Common.{Some, None, Result, Ok, Err}
 use Rattle.fore_base.specs.declared.fault.Fault.{Fault}
 use Rattle.fore_base.specs.declared.fault.Fault.TheVariants.{Leak}
 use Rattle.fore_base.specs.declared.shape.Shape.{Shape}
@@ -77,10 +77,8 @@ field_named all (c ∷ cs) n f v h e = here (nat_eq c.number n) (field_named all
 
 module _ (cs ds : List CellRec) (kept : (m : ℕ) → HasCell cs m → HasCell ds m) where
   named_moved : (v : Value) → NamesCell cs v → NamesCell ds v
-  named_moved Null h = tt
-  named_moved Uninit h = tt
-  named_moved Dangling h = tt
   named_moved (Cell n) h = kept n h
+  named_moved _ h = tt
 
   vars_moved : (vs : List Value) → Every (NamesCell cs) vs → Every (NamesCell ds) vs
   vars_moved vs h = every_weaker (NamesCell cs) (NamesCell ds) vs named_moved h
@@ -89,25 +87,23 @@ module _ (cs ds : List CellRec) (kept : (m : ℕ) → HasCell cs m → HasCell d
   fields_moved es h = every_weaker (λ c. Every (NamesCell cs) c.fields) (λ c. Every (NamesCell ds) c.fields) es
       (λ c. vars_moved c.fields) h
 
+-- a cell that stands in the place of one of its number, or after it
+has_put : (b : Bool) (c d : CellRec) (cs ds : List CellRec) (m : ℕ) → d.number ≡ c.number
+    → (HasCell cs m → HasCell ds m) → HasCell (c ∷ cs) m → HasCell (if b then d ∷ cs else c ∷ ds) m
+has_put true c d cs ds m same rest (inl e) = inl (same ∙ e)
+has_put false c d cs ds m same rest (inl e) = inl e
+has_put true c d cs ds m same rest (inr h) = inr h
+has_put false c d cs ds m same rest (inr h) = inr (rest h)
+
 has_with : (n f : ℕ) (v : Value) (cs : List CellRec) (m : ℕ) → HasCell cs m → HasCell (with_field cs n f v) m
 has_with n f v [] m h = absurd h
-has_with n f v (c ∷ cs) m h = here (nat_eq c.number n) (has_with n f v cs m) h
-  where
-    here : (b : Bool) → (HasCell cs m → HasCell (with_field cs n f v) m) → HasCell (c ∷ cs) m
-        → HasCell (if b then record c { fields = slice_set c.fields f v } ∷ cs else c ∷ with_field cs n f v) m
-    here true rest h = h
-    here false rest (inl e) = inl e
-    here false rest (inr h) = inr (rest h)
+has_with n f v (c ∷ cs) m h = has_put (nat_eq c.number n) c (record c { fields = slice_set c.fields f v }) cs
+    (with_field cs n f v) m refl (has_with n f v cs m) h
 
 has_with_datum : (n f : ℕ) (d : Datum) (cs : List CellRec) (m : ℕ) → HasCell cs m → HasCell (with_datum cs n f d) m
 has_with_datum n f d [] m h = absurd h
-has_with_datum n f d (c ∷ cs) m h = here (nat_eq c.number n) (has_with_datum n f d cs m) h
-  where
-    here : (b : Bool) → (HasCell cs m → HasCell (with_datum cs n f d) m) → HasCell (c ∷ cs) m
-        → HasCell (if b then record c { datums = slice_set c.datums f d } ∷ cs else c ∷ with_datum cs n f d) m
-    here true rest h = h
-    here false rest (inl e) = inl e
-    here false rest (inr h) = inr (rest h)
+has_with_datum n f d (c ∷ cs) m h = has_put (nat_eq c.number n) c (record c { datums = slice_set c.datums f d }) cs
+    (with_datum cs n f d) m refl (has_with_datum n f d cs m) h
 
 fields_with : (all : List CellRec) (n f : ℕ) (v : Value) (cs : List CellRec) → NamesCell all v → FieldsNamed all cs
     → FieldsNamed all (with_field cs n f v)
@@ -152,14 +148,12 @@ has_without n m (c ∷ cs) other (inr h) = here (nat_eq c.number n) (has_without
     here false rest = inr rest
 
 dangle_named : (n : ℕ) (cs : List CellRec) (v : Value) → NamesCell cs v → NamesCell (without n cs) (dangle n v)
-dangle_named n cs Null h = tt
-dangle_named n cs Uninit h = tt
-dangle_named n cs Dangling h = tt
 dangle_named n cs (Cell m) h = here (nat_eq m n) refl
   where
     here : (b : Bool) → nat_eq m n ≡ b → NamesCell (without n cs) (if b then Dangling else Cell m)
     here true is = tt
     here false is = has_without n m cs is h
+dangle_named n cs _ h = tt
 
 vars_dangle : (n : ℕ) (cs : List CellRec) (vs : List Value) → Every (NamesCell cs) vs
     → Every (NamesCell (without n cs)) (map (dangle n) vs)
@@ -315,14 +309,12 @@ raw_proper shapes (Stop true) x s p = tt
 raw_proper shapes (Stop false) x s p = tt
 
 tested_proper : (q : Pass) → Onward IsProper q → Onward IsProper (leak_tested q)
-tested_proper (Faulted k) h = tt
-tested_proper Halted h = tt
-tested_proper NotPassed h = tt
 tested_proper (Passed s) h = here (leaks s)
   where
     here : (b : Bool) → Onward IsProper (if b then Faulted Leak else Passed s)
     here true = tt
     here false = h
+tested_proper _ h = tt
 
 pub steps_proper : (shapes : List Shape) (e : Edge) (s t : Store) → IsProper s → gstep shapes e s ≡ Passed t
     → IsProper t
