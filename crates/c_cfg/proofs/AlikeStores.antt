@@ -2,7 +2,7 @@
 use Rattle.std.proofs.Common.{◌≡◌, inl, inr, ℕ, zero, suc, List, [], ◌∷◌, map, replicate, refl, sym, ap, ap₂, ◌∙◌}
 use Rattle.std.proofs.Common.{subst}
 use Rattle.fore_base.specs.declared.store.Value.{Value}
-use Rattle.fore_base.specs.declared.store.Value.TheVariants.{Null, Uninit, Dangling, Cell}
+use Rattle.fore_base.specs.declared.store.Value.TheVariants.{Null, Uninit}
 use Rattle.fore_base.specs.declared.store.CellRec.{CellRec}
 use Rattle.fore_base.specs.declared.store.Store.{Store}
 use Rattle.fore_base.specs.Heap.{HasCell, value_renamed, cell_renamed, IsAlike}
@@ -13,9 +13,7 @@ use Rattle.c_cfg.proofs.Moving.{Moved, none, chain, moved, permuted, moved_map, 
 module _ (f g : ℕ → ℕ) where
   value_twice : (v : Value) → value_renamed g (value_renamed f v) ≡ value_renamed (λ n. g (f n)) v
   value_twice Null = refl
-  value_twice Uninit = refl
-  value_twice Dangling = refl
-  value_twice (Cell n) = refl
+  value_twice _ = refl
 
   values_twice : (vs : List Value) → map (value_renamed g) (map (value_renamed f) vs)
       ≡ map (value_renamed (λ n. g (f n))) vs

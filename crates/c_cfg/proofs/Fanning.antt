@@ -7,18 +7,17 @@ use Rattle.fore_base.specs.declared.store.Store.{Store}
 use Rattle.fore_base.specs.Lists.{IsIn, Every}
 use Rattle.c_types.specs.declared.outcome.Outcome.{Outcome}
 use Rattle.c_types.specs.declared.outcome.Outcome.TheVariants.{Fault, StillRunning}
-use Rattle.c_types.specs.declared.program.Atom.TheVariants.{Choice as ChoiceAtom, Known as KnownAtom, Ptr as PtrAtom}
+use Rattle.c_types.specs.declared.program.Atom.TheVariants.{Ptr as PtrAtom}
 use Rattle.c_types.specs.declared.program.Atom.TheVariants.{Data as DataAtom}
 use Rattle.c_types.specs.declared.mode.MallocMode.{MallocMode}
 use Rattle.c_types.specs.Program.{Program}
-use Rattle.c_types.specs.Control.{Items, Done, Do, Close, If, Loop, Again, DoLoop, DoAgain, Enter, Leave, Exit, Ask}
-use Rattle.c_types.specs.Control.{Not, Both, Either}
+use Rattle.c_types.specs.Control.{Items, Done, Do, If, Enter, Leave, Exit, Ask}
 use Rattle.c_types.specs.Runs.{supply}
 use Rattle.c_cfg.specs.declared.graph.Instr.{Instr}
 use Rattle.c_cfg.specs.declared.graph.Instr.TheVariants.{Choose}
 use Rattle.c_cfg.specs.declared.graph.Edge.{Edge}
 use Rattle.c_cfg.specs.Graphs.{ControlGraph, has_choice}
-use Rattle.c_cfg.specs.Edges.{Pass, Passed, Faulted, Halted, NotPassed, onto, if_agreed, leak_tested, gstep}
+use Rattle.c_cfg.specs.Edges.{Pass, Passed, NotPassed, onto, if_agreed, leak_tested, gstep}
 use Rattle.c_cfg.specs.GraphRuns.{out_of, is_taken_on, after_pass, leave}
 use Rattle.c_cfg.specs.Links.{Link, One, Two}
 use Rattle.c_cfg.specs.Places.{places}
@@ -69,39 +68,17 @@ module _ (p : Program) (mode : MallocMode) (g : ControlGraph) (low : LowerOf p m
   Good = PlaceGood (length p.vars) (length p.data_vars) (λ l. Unit {0}) (IsOpposed shapes) mode
 
   good : (c : Items) → Good c
-  good Done = tt
   good (Do a m is) = every_true _
-  good (Close ps ds m is) = tt
-  good (If (Ask ChoiceAtom m) x y is) = tt
-  good (If (Ask (KnownAtom b) m) x y is) = tt
   good (If (Ask (PtrAtom l r e) m) x y is) = (every_true _, (λ line k a b s. opposed _ s), every_true _)
   good (If (Ask (DataAtom l r e) m) x y is) = (every_true _, (λ line k a b s. opposed _ s), every_true _)
-  good (If (Not c) x y is) = tt
-  good (If (Both c d) x y is) = tt
-  good (If (Either c d) x y is) = tt
-  good (Loop c n b is) = tt
-  good (Again c n b is) = tt
-  good (DoLoop c b is) = tt
-  good (DoAgain c b is) = tt
   good (Enter vs ws m is) = every_true _
   good (Leave v vs a m is) = every_true _
   good (Exit v vs d m is) = every_true _
+  good _ = tt
 
   pub leads : (c : Items) → PlaceLeads (λ k. Unit {0}) low.at c
-  leads Done = tt
-  leads (Do a m is) = tt
-  leads (Close ps ds m is) = tt
   leads (If (Ask a m) x y is) = (tt, tt)
-  leads (If (Not c) x y is) = tt
-  leads (If (Both c d) x y is) = tt
-  leads (If (Either c d) x y is) = tt
-  leads (Loop c n b is) = tt
-  leads (Again c n b is) = tt
-  leads (DoLoop c b is) = tt
-  leads (DoAgain c b is) = tt
-  leads (Enter vs ws m is) = tt
-  leads (Leave v vs a m is) = tt
-  leads (Exit v vs d m is) = tt
+  leads _ = tt
 
   every_of : (Q : Items → Type 0) → ((c : Items) → Q c) → (cs : List Items) → Every Q cs
   every_of Q q [] = tt
@@ -120,10 +97,8 @@ module _ (p : Program) (mode : MallocMode) (g : ControlGraph) (low : LowerOf p m
 -- where an edge goes somewhere, the other edges have no bearing
 decided : (p : Pass) (line step : ℕ) (next : Store → Outcome) (o others : Outcome) → (p ≡ NotPassed → ⊥)
     → after_pass p line step next o ≡ after_pass p line step next others
-decided (Passed t) line step next o others d = refl
-decided (Faulted k) line step next o others d = refl
-decided Halted line step next o others d = refl
 decided NotPassed line step next o others d = absurd (d refl)
+decided _ line step next o others d = refl
 
 module _ (shapes : List Shape) (s : Store) where
   by_one : (d : Edge) → d.choice ≡ None → GoesBy shapes (d ∷ []) d s

@@ -13,8 +13,7 @@ use Rattle.c_types.specs.declared.program.DataRhs.{DataRhs}
 use Rattle.c_types.specs.declared.program.DataRhs.TheVariants.{Path as DataRhsPath, Known as DataRhsKnown}
 use Rattle.c_types.specs.declared.program.DataRhs.TheVariants.{Choice as DataRhsChoice}
 use Rattle.c_types.specs.declared.program.Act.{Act}
-use Rattle.c_types.specs.declared.program.Act.TheVariants.{SetPtr, SetData, Free as FreeAct, Error, Halt, Return, Break}
-use Rattle.c_types.specs.declared.program.Act.TheVariants.{Continue, Leave as LeaveAct}
+use Rattle.c_types.specs.declared.program.Act.TheVariants.{SetPtr, SetData, Free as FreeAct, Return}
 use Rattle.c_types.specs.declared.program.VarRef.{VarRef}
 use Rattle.c_types.specs.declared.program.VarRef.TheVariants.{Ptr as PtrRef, Data as DataRef}
 use Rattle.c_types.specs.declared.program.Arg.{Arg}
@@ -85,10 +84,8 @@ module _ (nv nd : ℕ) where
   ptr_filled x (f ∷ fs) from = path_filled x f fs from
 
   data_var_filled : (x : ℕ) (from : DataRhs) → Filled (data_var_row nv nd x from)
-  data_var_filled x (DataRhsPath (DataVar y)) = tt
   data_var_filled x (DataRhsPath (DataField base f)) = data_filled nv x f base _
-  data_var_filled x (DataRhsKnown k) = tt
-  data_var_filled x DataRhsChoice = tt
+  data_var_filled x _ = tt
 
   data_field_filled : (base : Path) (f : ℕ) (from : DataRhs) → Filled (data_field_row nv nd base f from)
   data_field_filled base f (DataRhsPath q) =
@@ -108,12 +105,8 @@ module _ (nv nd : ℕ) where
   act_filled (SetPtr to from) is = ptr_filled to.var to.fields from
   act_filled (SetData to from) is = set_data_filled to from
   act_filled (FreeAct p) is = filled_after (loads nv p.var p.fields) _ _
-  act_filled Error is = tt
-  act_filled Halt is = tt
   act_filled (Return operand) is = return_filled operand
-  act_filled (LeaveAct f value) is = tt
-  act_filled Break is = tt
-  act_filled Continue is = tt
+  act_filled _ is = tt
 
   -- Calls
 
@@ -154,14 +147,7 @@ module _ (nv nd : ℕ) where
 
   pub row_length : (a : Act) (is : Items) → length (act_row nv nd a is) ≡ length (act_row nv nd a Done)
   row_length (SetPtr to from) is = refl
-  row_length (SetData to from) is = refl
-  row_length (FreeAct p) is = refl
-  row_length Error is = refl
-  row_length Halt is = refl
-  row_length (Return operand) is = refl
-  row_length (LeaveAct f value) is = refl
-  row_length Break is = refl
-  row_length Continue is = refl
+  row_length _ is = refl
 
 pub pred_least : (n : ℕ) → n ≤ suc (pred n)
 pred_least zero = omega arith

@@ -18,20 +18,16 @@ use Rattle.c_cfg.specs.LoopFree.{items_free, has_no_loop}
 
 -- marks have no bearing
 free_remarked : (f : ℕ → ℕ) (is : Items) → items_free (remark f is) ≡ items_free is
-free_remarked f Done = refl
 free_remarked f (Do a m is) = free_remarked f is
 free_remarked f (Close ps ds m is) = free_remarked f is
 free_remarked f (If c x y is) =
     ap (λ b. (b && items_free (remark f y)) && items_free (remark f is)) (free_remarked f x)
     ∙ ap (λ b. (items_free x && b) && items_free (remark f is)) (free_remarked f y)
     ∙ ap (λ b. (items_free x && items_free y) && b) (free_remarked f is)
-free_remarked f (Loop c n b is) = refl
-free_remarked f (Again c n b is) = refl
-free_remarked f (DoLoop c b is) = refl
-free_remarked f (DoAgain c b is) = refl
 free_remarked f (Enter vs ws m is) = free_remarked f is
 free_remarked f (Leave v vs a m is) = free_remarked f is
 free_remarked f (Exit v vs d m is) = free_remarked f is
+free_remarked f _ = refl
 
 -- Loop heads
 

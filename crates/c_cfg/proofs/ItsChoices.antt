@@ -1,18 +1,16 @@
 -- Where each `malloc` gives a cell, an edge of a lowered program has a choice exactly if it is a Choose.
-use Rattle.std.proofs.Common.{◌≡◌, ℕ, ◌+◌, List, [], ◌∷◌, ◌++◌, length, Bool, true, false, refl, sym}
+use Rattle.std.proofs.Common.{◌≡◌, ℕ, List, [], ◌∷◌, ◌++◌, length, Bool, true, false, refl, sym}
 use Rattle.fore_base.specs.Lists.{Every}
 use Rattle.fore_base.proofs.ListLemmas.{every_append, every_in, in_every}
 use Rattle.c_types.specs.declared.mode.MallocMode.TheVariants.{Always}
 use Rattle.c_types.specs.declared.program.PtrRhs.{PtrRhs}
 use Rattle.c_types.specs.declared.program.PtrRhs.TheVariants.{Path as RhsPath, Null as RhsNull, New as RhsNew}
 use Rattle.c_types.specs.declared.program.Act.{Act}
-use Rattle.c_types.specs.declared.program.Act.TheVariants.{SetPtr, SetData, Free as FreeAct, Error, Halt, Return, Break}
-use Rattle.c_types.specs.declared.program.Act.TheVariants.{Continue, Leave as LeaveAct}
+use Rattle.c_types.specs.declared.program.Act.TheVariants.{SetPtr, SetData, Free as FreeAct, Return}
 use Rattle.c_types.specs.declared.program.Atom.TheVariants.{Choice as ChoiceAtom, Known as KnownAtom, Ptr as PtrAtom}
 use Rattle.c_types.specs.declared.program.Atom.TheVariants.{Data as DataAtom}
 use Rattle.c_types.specs.Program.{Program}
-use Rattle.c_types.specs.Control.{Items, Done, Do, Close, If, Loop, Again, DoLoop, DoAgain, Enter, Leave, Exit, Ask}
-use Rattle.c_types.specs.Control.{Not, Both, Either}
+use Rattle.c_types.specs.Control.{Items, Done, Do, Close, If, Enter, Leave, Exit, Ask}
 use Rattle.c_cfg.specs.declared.graph.Instr.{Instr}
 use Rattle.c_cfg.specs.declared.graph.Edge.{Edge}
 use Rattle.c_cfg.specs.Graphs.{ControlGraph, is_choose}
@@ -62,12 +60,8 @@ module _ (nv nd : ℕ) where
   act_fits (SetData to from) is =
       plain_as_fit (data_rhs_takes from) (data_row nv nd to from) (set_data_plain nv nd to from)
   act_fits (FreeAct q) is = plain_fit (free_row nv nd q) (freed_plain nv nd q)
-  act_fits Error is = (refl, tt)
-  act_fits Halt is = (refl, tt)
-  act_fits (LeaveAct f value) is = (refl, tt)
   act_fits (Return operand) is = plain_fit (return_row nv nd operand) (returned_plain nv nd operand)
-  act_fits Break is = (refl, tt)
-  act_fits Continue is = (refl, tt)
+  act_fits _ is = (refl, tt)
 
 -- Edges
 
@@ -103,16 +97,10 @@ module _ (p : Program) (g : ControlGraph) (low : LowerOf p Always g) where
     (λ b. refl),
     plain_fit _ (ends_plain _ _),
   )
-  place_good (If (Not c) x y is) = tt
-  place_good (If (Both c d) x y is) = tt
-  place_good (If (Either c d) x y is) = tt
-  place_good (Loop c n b is) = tt
-  place_good (Again c n b is) = tt
-  place_good (DoLoop c b is) = tt
-  place_good (DoAgain c b is) = tt
   place_good (Enter vs ws m is) = plain_fit _ (enter_plain (length p.vars) (length p.data_vars) vs ws)
   place_good (Leave v vs a m is) = plain_fit _ (leave_plain (length p.vars) (length p.data_vars) v vs a)
   place_good (Exit v vs d m is) = plain_fit _ (exit_plain (length p.vars) (length p.data_vars) v vs d)
+  place_good _ = tt
 
   pub stand_at_chooses : Every HasChoiceAsChoose g.edges
   stand_at_chooses = in_every HasChoiceAsChoose g.edges (λ e i.

@@ -1,7 +1,7 @@
 -- Of two alike stores, the first of which is proper, both have leaked or neither has.
 use Rattle.std.proofs.Common.{◌≡◌, inl, inr, ℕ, Bool, true, false, List, [], ◌∷◌, map, refl, sym, ap, ◌∙◌, subst}
 use Rattle.fore_base.specs.declared.store.Value.{Value}
-use Rattle.fore_base.specs.declared.store.Value.TheVariants.{Null, Uninit, Dangling, Cell}
+use Rattle.fore_base.specs.declared.store.Value.TheVariants.{Cell}
 use Rattle.fore_base.specs.declared.store.CellRec.{CellRec}
 use Rattle.fore_base.specs.declared.store.Store.{Store}
 use Rattle.fore_base.specs.Lists.{IsIn, Every}
@@ -23,10 +23,8 @@ pub record NamedBefore (to : ℕ → ℕ) (m : ℕ) (v : Value) : Type 0 where
   pub to_is : to number ≡ m
 
 named_before : (to : ℕ → ℕ) (m : ℕ) (v : Value) → Cell m ≡ value_renamed to v → NamedBefore to m v
-named_before to m Null e = cc
-named_before to m Uninit e = cc
-named_before to m Dangling e = cc
 named_before to m (Cell n) e = record { number = n; is = refl; to_is = cc }
+named_before to m _ e = cc
 
 module _ (s t : Store) (a : IsAlike s t) (p : IsProper s) where
   abbrev ren : CellRec → CellRec

@@ -257,13 +257,6 @@ module _ (edges : List Edge) (P : List Edge → Type 0) (T : ℕ → Type 0) (L 
         over_has (line m) (One (Kill ps ds) ∷ []) (at (Close ps ds m is)) (mids (Close ps ds m is)) _ r tt (g, tt) d t
     place_has (If (Ask a m) x y is) o r g d t =
         atom_has a (line m) (at (If (Ask a m) x y is)) (mids (If (Ask a m) x y is)) _ _ r g d.0 d.1 t
-    place_has (If (Not c) x y is) o r g d t = absurd r
-    place_has (If (Both c e) x y is) o r g d t = absurd r
-    place_has (If (Either c e) x y is) o r g d t = absurd r
-    place_has (Loop c n b is) o r g d t = absurd r
-    place_has (Again c n b is) o r g d t = absurd r
-    place_has (DoLoop c b is) o r g d t = absurd r
-    place_has (DoAgain c b is) o r g d t = absurd r
     place_has (Enter vs ws m is) o r g d t =
         over_has (line m) (enter_row nv nd vs ws) (at (Enter vs ws m is)) (mids (Enter vs ws m is)) _ r
         (enter_filled nv nd vs ws) g d t
@@ -273,6 +266,7 @@ module _ (edges : List Edge) (P : List Edge → Type 0) (T : ℕ → Type 0) (L 
     place_has (Exit v vs e m is) o r g d t =
         over_has (line m) (exit_row nv nd v vs e) (at (Exit v vs e m is)) (mids (Exit v vs e m is)) _ r
         (exit_filled nv nd v vs e) g d t
+    place_has _ o r g d t = absurd r
 
     every_has : (cs : List Items) → Every IsStep cs → Every (IsRow nv nd edges mode line at mids) cs
         → Every (PlaceGood nv nd L C mode) cs → Every (PlaceLeads T at) cs → Every T (numbers at mids cs)

@@ -91,48 +91,30 @@ of_kind other (BadChoice index) = other
 of_kind other StillRunning = other
 
 fault_from : (o : Outcome) (kind : Kind) (line : ℕ) → stepless o ≡ Fault kind line 0 → IsFaultAt kind line o
-fault_from (Ended step) kind line e = absurd (cc e)
 fault_from (Fault k l step) kind line e =
     (step, ap (λ z. Fault z l step) (ap (of_kind kind) e) ∙ ap (λ z. Fault kind z step) (ap (at_line line) e))
-fault_from (Starved step) kind line e = absurd (cc e)
-fault_from (BadChoice index) kind line e = absurd (cc e)
-fault_from StillRunning kind line e = absurd (cc e)
+fault_from _ kind line e = absurd (cc e)
 
 ended_from : (o : Outcome) → stepless o ≡ Ended 0 → IsEnded o
 ended_from (Ended step) e = (step, refl)
-ended_from (Fault k l step) e = absurd (cc e)
-ended_from (Starved step) e = absurd (cc e)
-ended_from (BadChoice index) e = absurd (cc e)
-ended_from StillRunning e = absurd (cc e)
+ended_from _ e = absurd (cc e)
 
 starved_from : (o : Outcome) → stepless o ≡ Starved 0 → IsStarved o
-starved_from (Ended step) e = absurd (cc e)
-starved_from (Fault k l step) e = absurd (cc e)
 starved_from (Starved step) e = (step, refl)
-starved_from (BadChoice index) e = absurd (cc e)
-starved_from StillRunning e = absurd (cc e)
+starved_from _ e = absurd (cc e)
 
 bad_from : (o : Outcome) (index : ℕ) → stepless o ≡ BadChoice index → IsBadAt index o
-bad_from (Ended step) index e = absurd (cc e)
-bad_from (Fault k l step) index e = absurd (cc e)
-bad_from (Starved step) index e = absurd (cc e)
 bad_from (BadChoice i) index e = e
-bad_from StillRunning index e = absurd (cc e)
+bad_from _ index e = absurd (cc e)
 
 stays_stepless : (o r : Outcome) → Stays o r → IsOver o → stepless r ≡ stepless o
-stays_stepless (Ended step) r h v = ap stepless h
-stays_stepless (Fault kind line step) r h v = ap stepless h
-stays_stepless (Starved step) r h v = ap stepless h
-stays_stepless (BadChoice index) r h v = ap stepless h
 stays_stepless StillRunning r h v = absurd v
+stays_stepless _ r h v = ap stepless h
 
 -- The program's run o of as many steps as the graph's run r of edges, which is over: with more edges that comes to t.
 from_graph : (o r t : Outcome) → Follows o t → Still o r → Stays r t → IsOver r → stepless o ≡ stepless r
-from_graph (Ended step) r t f s h v = sym f ∙ stays_stepless r t h v
-from_graph (Fault kind line step) r t f s h v = sym f ∙ stays_stepless r t h v
-from_graph (Starved step) r t f s h v = sym f ∙ stays_stepless r t h v
-from_graph (BadChoice index) r t f s h v = sym f ∙ stays_stepless r t h v
 from_graph StillRunning r t f s h v = absurd (subst IsOver s v)
+from_graph _ r t f s h v = sym f ∙ stays_stepless r t h v
 
 module _ (p : Program) (typed : is_typed p ≡ true) (mode : MallocMode) (g : ControlGraph)
     (low : LowerOf p mode g) where

@@ -11,9 +11,9 @@ use Rattle.fore_base.specs.declared.store.Store.{Store}
 use Rattle.fore_base.specs.Lists.{IsIn, Every}
 use Rattle.fore_base.specs.Stores.{onward, set_each, kill}
 use Rattle.fore_base.specs.Heap.{leaks}
-use Rattle.c_types.specs.declared.program.DataPath.TheVariants.{Var as DataVar, Field as DataField}
-use Rattle.c_types.specs.declared.program.PtrOp.TheVariants.{Path as OpPath, Null as OpNull}
-use Rattle.c_types.specs.declared.program.DataOp.TheVariants.{Path as DataOpPath, Known as DataOpKnown}
+use Rattle.c_types.specs.declared.program.DataPath.TheVariants.{Field as DataField}
+use Rattle.c_types.specs.declared.program.PtrOp.TheVariants.{Path as OpPath}
+use Rattle.c_types.specs.declared.program.DataOp.TheVariants.{Path as DataOpPath}
 use Rattle.c_types.specs.declared.program.VarRef.{VarRef}
 use Rattle.c_types.specs.declared.program.VarRef.TheVariants.{Ptr as PtrRef, Data as DataRef}
 use Rattle.c_types.specs.declared.program.Arg.{Arg}
@@ -120,14 +120,12 @@ module _ (p : Program) (typed : is_typed p ≡ true) (choice : ℕ) where
 
     left_same : (a : Arg) → given_used nv nd a ≡ [] → left a ≡ z
     left_same (GivenPtr (OpPath q)) e = path_left q.var q.fields e
-    left_same (GivenPtr OpNull) e = refl
-    left_same (GivenData (DataOpPath (DataVar y))) e = refl
     left_same (GivenData (DataOpPath (DataField base f))) e = by base.fields e
       where
         by : (fs : List ℕ) → used nv fs ≡ [] → held_or z fs (value_of (read s base)) ≡ z
         by [] e = refl
         by (g ∷ gs) e = absurd (cc e)
-    left_same (GivenData (DataOpKnown k)) e = refl
+    left_same _ e = refl
 
   left_cleared : (s : Store) (sound : Sound p s) (whole : leaks s ≡ false) (a : Arg)
       → IsCleared nv Uninit (given_used nv nd a) (leaves p choice s sound whole Uninit a)
@@ -137,14 +135,12 @@ module _ (p : Program) (typed : is_typed p ≡ true) (choice : ℕ) where
       by [] = refl
       by (f ∷ []) = refl
       by (f ∷ g ∷ gs) = refl
-  left_cleared s sound whole (GivenPtr OpNull) = refl
-  left_cleared s sound whole (GivenData (DataOpPath (DataVar y))) = refl
   left_cleared s sound whole (GivenData (DataOpPath (DataField base f))) = by base.fields
     where
       by : (fs : List ℕ) → IsCleared nv Uninit (used nv fs) (held_or Uninit fs (value_of (read s base)))
       by [] = refl
       by (g ∷ gs) = refl
-  left_cleared s sound whole (GivenData (DataOpKnown k)) = refl
+  left_cleared s sound whole _ = refl
 
   -- A call begins
 
@@ -161,10 +157,8 @@ module _ (p : Program) (typed : is_typed p ≡ true) (choice : ℕ) where
       by : (fs : List ℕ) → Either (used_before nv fs)
       by [] = inr refl
       by (f ∷ fs) = used_once fs
-  given_once (GivenPtr OpNull) = inr refl
-  given_once (GivenData (DataOpPath (DataVar y))) = inr refl
   given_once (GivenData (DataOpPath (DataField base f))) = used_once base.fields
-  given_once (GivenData (DataOpKnown k)) = inr refl
+  given_once _ = inr refl
 
   each_once : (ws : List Arg) → Either (each_used nv nd ws)
   each_once [] = inr refl

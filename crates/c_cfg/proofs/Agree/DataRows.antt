@@ -4,7 +4,7 @@ use Rattle.std.proofs.Common.{List, [], ◌∷◌, ◌++◌, length, length-set,
 use Rattle.std.proofs.lemmas.Bool.{and_parts}
 use Rattle.fore_base.specs.declared.fault.Fault.TheVariants.{Leak}
 use Rattle.fore_base.specs.declared.store.Value.{Value}
-use Rattle.fore_base.specs.declared.store.Value.TheVariants.{Null, Uninit, Dangling, Cell}
+use Rattle.fore_base.specs.declared.store.Value.TheVariants.{Uninit, Cell}
 use Rattle.fore_base.specs.declared.store.Datum.{Datum}
 use Rattle.fore_base.specs.declared.store.Datum.TheVariants.{Undefined, Known}
 use Rattle.fore_base.specs.declared.store.Store.{Store}
@@ -41,11 +41,9 @@ use Rattle.c_cfg.proofs.Agree.PointerRows.{append_on}
 
 stored_datum_sized : (nv nd : ℕ) (s t : Store) (w : Value) (f : ℕ) (v : Datum) → Sized nv nd s → store_datum s w f v
     ≡ Ok t → Sized nv nd t
-stored_datum_sized nv nd s t Null f v z e = cc
-stored_datum_sized nv nd s t Uninit f v z e = cc
-stored_datum_sized nv nd s t Dangling f v z e = cc
 stored_datum_sized nv nd s t (Cell n) f v z e = let same : record s { cells = with_datum s.cells n f v } ≡ t = cc in
     subst (Sized nv nd) same (record { ptrs = z.ptrs; datums = z.datums })
+stored_datum_sized nv nd s t _ f v z e = cc
 
 pick_same : (x : ℕ) (i : Instr) → pick x i i ≡ i
 pick_same zero i = refl

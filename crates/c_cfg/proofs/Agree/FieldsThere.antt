@@ -5,7 +5,7 @@ use Rattle.std.proofs.Common.{[], ◌∷◌, length, slice_get, slice_index_or, 
 use Rattle.std.proofs.lemmas.Bool.{eqb-true, eq-eqb}
 use Rattle.fore_base.specs.declared.shape.Shape.{Shape}
 use Rattle.fore_base.specs.declared.store.Value.{Value}
-use Rattle.fore_base.specs.declared.store.Value.TheVariants.{Null, Uninit, Dangling, Cell}
+use Rattle.fore_base.specs.declared.store.Value.TheVariants.{Uninit, Cell}
 use Rattle.fore_base.specs.declared.store.Datum.TheVariants.{Undefined}
 use Rattle.fore_base.specs.declared.store.CellRec.{CellRec}
 use Rattle.fore_base.specs.Lists.{Every}
@@ -89,9 +89,7 @@ module _ (shapes : List Shape) (all : List CellRec) where
 -- a value of the declared struct may stand in a field
 pub stands_there : (shapes : List Shape) (cs : List CellRec) (n t f k : ℕ) (v : Value) → AllDiffer cs → HasCellOf cs n t
     → IsAt (targets_of shapes t) f k → PointsTo cs k v → may_stand shapes cs n f v ≡ true
-stands_there shapes cs n t f k Null apart has at points = refl
-stands_there shapes cs n t f k Uninit apart has at points = refl
-stands_there shapes cs n t f k Dangling apart has at points = refl
 stands_there shapes cs n t f k (Cell m) apart has at points =
     rw (struct_there cs m k apart points, struct_there cs n t apart has, at_is (targets_of shapes t) f k at)
     (eq-eqb k k refl)
+stands_there shapes cs n t f k _ apart has at points = refl

@@ -9,8 +9,7 @@ use Rattle.fore_base.specs.Heap.{leaks}
 use Rattle.c_types.specs.declared.mode.MallocMode.{MallocMode}
 use Rattle.c_types.specs.declared.outcome.Outcome.{Outcome}
 use Rattle.c_types.specs.declared.program.Act.{Act}
-use Rattle.c_types.specs.declared.program.Act.TheVariants.{SetPtr, SetData, Free, Error, Halt, Return, Break, Continue}
-use Rattle.c_types.specs.declared.program.Act.TheVariants.{Leave as LeaveAct}
+use Rattle.c_types.specs.declared.program.Act.TheVariants.{SetPtr, SetData, Free, Return, Break, Continue}
 use Rattle.c_types.specs.Program.{Program}
 use Rattle.c_types.specs.Control.{Items, Done, Do, Close, If, Loop, Again, DoLoop, DoAgain, Test, Ask, Not, Both}
 use Rattle.c_types.specs.Control.{Either, Enter, Leave, Exit, ◌then◌, ask, round, do_round, open_before, opened}
@@ -180,12 +179,10 @@ module _ (f : ℕ → ℕ) where
     act_same shapes mode (SetPtr to from) is s x = settled_same (assign shapes mode s to from x) is
     act_same shapes mode (SetData to from) is s x = settled_same (assign_data s to from x) is
     act_same shapes mode (Free p) is s x = settled_same (free_path s p) is
-    act_same shapes mode Error is s x = refl
-    act_same shapes mode Halt is s x = refl
-    act_same shapes mode (LeaveAct g value) is s x = refl
     act_same shapes mode (Return operand) is s x = finished_same (look_at s operand)
     act_same shapes mode Break is s x = round_same is (after_again is) (after_again (remark f is)) s (remark_after is)
     act_same shapes mode Continue is s x = round_same is (from_again is) (from_again (remark f is)) s (remark_from is)
+    act_same shapes mode _ is s x = refl
 
   module _ (shapes : List Shape) (mode : MallocMode) where
     advance_same : (next other : ℕ → Items → Store → List ℕ → ℕ → Outcome)
@@ -193,7 +190,6 @@ module _ (f : ℕ → ℕ) where
         → (o : Items) (st : ℕ) (s : Store) (cs : List ℕ) (u : ℕ)
         → advance shapes mode own_line at_end (remark f o) next st s cs u
         ≡ advance shapes mode f at_end o other st s cs u
-    advance_same next other same Done st s cs u = refl
     advance_same next other same (Do a m is) st s cs u =
         supply_same (act_takes mode a) cs (st + 1) u _ _
         (λ x ds v. act_same (f m) (st + 1) (λ js t. next (st + 1) js t ds v) (λ js t. other (st + 1) js t ds v)
@@ -205,13 +201,6 @@ module _ (f : ℕ → ℕ) where
         supply_same (atom_takes a) cs (st + 1) u _ _
         (λ c ds v. test_same (f m) (st + 1) (λ js t. next (st + 1) js t ds v) (λ js t. other (st + 1) js t ds v)
         (λ js t. same (st + 1) js t ds v) (atom_of a s c) x y is s)
-    advance_same next other same (If (Not c) x y is) st s cs u = refl
-    advance_same next other same (If (Both c d) x y is) st s cs u = refl
-    advance_same next other same (If (Either c d) x y is) st s cs u = refl
-    advance_same next other same (Loop c n b is) st s cs u = refl
-    advance_same next other same (Again c n b is) st s cs u = refl
-    advance_same next other same (DoLoop c b is) st s cs u = refl
-    advance_same next other same (DoAgain c b is) st s cs u = refl
     advance_same next other same (Enter vs ws m is) st s cs u =
         settled_same (f m) (st + 1) (λ js t. next (st + 1) js t cs u) (λ js t. other (st + 1) js t cs u)
         (λ js t. same (st + 1) js t cs u) (enter s vs ws) is
@@ -221,19 +210,11 @@ module _ (f : ℕ → ℕ) where
     advance_same next other same (Exit v vs d m is) st s cs u =
         settled_same (f m) (st + 1) (λ js t. next (st + 1) js t cs u) (λ js t. other (st + 1) js t cs u)
         (λ js t. same (st + 1) js t cs u) (exit s v vs d) is
+    advance_same next other same _ st s cs u = refl
 
     end_same : (o : Items) (st : ℕ) → at_end (remark f o) st ≡ at_end o st
     end_same Done st = refl
-    end_same (Do a m is) st = refl
-    end_same (Close ps ds m is) st = refl
-    end_same (If c x y is) st = refl
-    end_same (Loop c n b is) st = refl
-    end_same (Again c n b is) st = refl
-    end_same (DoLoop c b is) st = refl
-    end_same (DoAgain c b is) st = refl
-    end_same (Enter vs ws m is) st = refl
-    end_same (Leave v vs a m is) st = refl
-    end_same (Exit v vs d m is) st = refl
+    end_same _ st = refl
 
     pub go_same : (n st : ℕ) (c : Items) (s : Store) (cs : List ℕ) (u : ℕ)
         → go shapes mode own_line at_end n st (remark f c) s cs u ≡ go shapes mode f at_end n st c s cs u

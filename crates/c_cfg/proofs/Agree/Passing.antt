@@ -39,15 +39,11 @@ module _ (shapes : List Shape) (x : ℕ) where
 
   then_then : (p : Pass) (f g : Store → Pass) → then_pass (then_pass p f) g ≡ then_pass p (λ s. then_pass (f s) g)
   then_then (Passed s) f g = refl
-  then_then (Faulted k) f g = refl
-  then_then Halted f g = refl
-  then_then NotPassed f g = refl
+  then_then _ f g = refl
 
   then_same : (p : Pass) (f g : Store → Pass) → ((s : Store) → f s ≡ g s) → then_pass p f ≡ then_pass p g
   then_same (Passed s) f g same = same s
-  then_same (Faulted k) f g same = refl
-  then_same Halted f g same = refl
-  then_same NotPassed f g same = refl
+  then_same _ f g same = refl
 
   pub links_append : (ls ms : List Link) (s : Store) → links_pass (ls ++ ms) s
       ≡ then_pass (links_pass ls s) (λ t. links_pass ms t)
@@ -88,9 +84,7 @@ done_pass r = onto r settled_pass
 
 pub then_nothing : (p : Pass) → then_pass p (λ h. Passed h) ≡ p
 then_nothing (Passed s) = refl
-then_nothing (Faulted k) = refl
-then_nothing Halted = refl
-then_nothing NotPassed = refl
+then_nothing _ = refl
 
 -- a step of one edge
 pub one_link : (shapes : List Shape) (x : ℕ) (i : Instr) (g t : Store) → raw_step shapes i 0 g ≡ Passed (ext0 t)

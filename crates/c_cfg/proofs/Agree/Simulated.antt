@@ -12,8 +12,8 @@ use Rattle.c_types.specs.declared.program.Atom.{Atom}
 use Rattle.c_types.specs.declared.program.Atom.TheVariants.{Choice as ChoiceAtom, Known as KnownAtom, Ptr as PtrAtom}
 use Rattle.c_types.specs.declared.program.Atom.TheVariants.{Data as DataAtom}
 use Rattle.c_types.specs.Program.{Program, is_typed}
-use Rattle.c_types.specs.Control.{Items, Done, Do, Close, If, Loop, Again, DoLoop, DoAgain, Enter, Leave, Exit, Ask}
-use Rattle.c_types.specs.Control.{Not, Both, Either, ◌then◌, opened}
+use Rattle.c_types.specs.Control.{Items, Done, Do, Close, If, Enter, Leave, Exit, Ask}
+use Rattle.c_types.specs.Control.{◌then◌, opened}
 use Rattle.c_types.specs.Steps.{Goes, turn_of}
 use Rattle.c_types.specs.Runs.{supply, at_end, advance, go}
 use Rattle.c_types.specs.Fits.{FitsProgram, ItemsFit}
@@ -47,11 +47,8 @@ Follows (BadChoice index) r = stepless r ≡ BadChoice index
 Follows StillRunning r = Unit {0}
 
 follows_equal : (o r : Outcome) → stepless o ≡ stepless r → Follows o r
-follows_equal (Ended step) r e = sym e
-follows_equal (Fault kind line step) r e = sym e
-follows_equal (Starved step) r e = sym e
-follows_equal (BadChoice index) r e = sym e
 follows_equal StillRunning r e = tt
+follows_equal _ r e = sym e
 
 -- while the first goes on, the second does
 abbrev pub Still : Outcome → Outcome → Type 0
@@ -62,18 +59,12 @@ Still (BadChoice index) r = Unit {0}
 Still StillRunning r = r ≡ StillRunning
 
 runs_on : (r : Outcome) → StillRunning ≡ stepless r → r ≡ StillRunning
-runs_on (Ended step) e = absurd (cc e)
-runs_on (Fault kind line step) e = absurd (cc e)
-runs_on (Starved step) e = absurd (cc e)
-runs_on (BadChoice index) e = absurd (cc e)
 runs_on StillRunning e = refl
+runs_on _ e = absurd (cc e)
 
 still_equal : (o r : Outcome) → stepless o ≡ stepless r → Still o r
-still_equal (Ended step) r e = tt
-still_equal (Fault kind line step) r e = tt
-still_equal (Starved step) r e = tt
-still_equal (BadChoice index) r e = tt
 still_equal StillRunning r e = runs_on r e
+still_equal _ r e = tt
 
 -- where the first is over, the second is the same
 abbrev pub Stays : Outcome → Outcome → Type 0
@@ -84,26 +75,17 @@ Stays (BadChoice index) r = r ≡ BadChoice index
 Stays StillRunning r = Unit {0}
 
 stays_same : (o : Outcome) → Stays o o
-stays_same (Ended step) = refl
-stays_same (Fault kind line step) = refl
-stays_same (Starved step) = refl
-stays_same (BadChoice index) = refl
 stays_same StillRunning = tt
+stays_same _ = refl
 
 -- what goes on later went on before
 went_on : (o r : Outcome) → Stays o r → r ≡ StillRunning → o ≡ StillRunning
-went_on (Ended step) r h e = absurd (cc (h, e))
-went_on (Fault kind line step) r h e = absurd (cc (h, e))
-went_on (Starved step) r h e = absurd (cc (h, e))
-went_on (BadChoice index) r h e = absurd (cc (h, e))
 went_on StillRunning r h e = refl
+went_on _ r h e = absurd (cc (h, e))
 
 shorter : (o r t : Outcome) → Still o r → Stays t r → Still o t
-shorter (Ended step) r t h k = tt
-shorter (Fault kind line step) r t h k = tt
-shorter (Starved step) r t h k = tt
-shorter (BadChoice index) r t h k = tt
 shorter StillRunning r t h k = went_on t r k h
+shorter _ r t h k = tt
 
 -- A run of a graph that is over stays so
 
@@ -166,9 +148,7 @@ module _ (shapes : List Shape) where
 module _ (nv nd : ℕ) where
   atom_size_least : (a : Atom) (m : ℕ) (x y is : Items) → 0 < size nv nd (If (Ask a m) x y is)
   atom_size_least ChoiceAtom m x y is = omega arith
-  atom_size_least (KnownAtom b) m x y is = omega arith
-  atom_size_least (PtrAtom l r e) m x y is = omega arith
-  atom_size_least (DataAtom l r e) m x y is = omega arith
+  atom_size_least _ m x y is = omega arith
 
 -- some edge begins where a way does
 begun : (edges : List Edge) (line : ℕ) (ls : List Link) (k : ℕ) (ms : List ℕ) (to : ℕ) → Filled ls
@@ -252,16 +232,7 @@ module _ (p : Program) (typed : is_typed p ≡ true) (mode : MallocMode) (edges 
   over_start : (o : Items) (st m q : ℕ) (g : Store) (cs : List ℕ) (u : ℕ)
       → Follows (at_end o st) (graph m q (at o) g cs u)
   over_start Done st m q g cs u = exit_ends p typed mode Follows follows_equal edges line at mids most exit m q g cs u
-  over_start (Do a k is) st m q g cs u = tt
-  over_start (Close ps ds k is) st m q g cs u = tt
-  over_start (If c x y is) st m q g cs u = tt
-  over_start (Loop c n b is) st m q g cs u = tt
-  over_start (Again c n b is) st m q g cs u = tt
-  over_start (DoLoop c b is) st m q g cs u = tt
-  over_start (DoAgain c b is) st m q g cs u = tt
-  over_start (Enter vs ws k is) st m q g cs u = tt
-  over_start (Leave v vs a k is) st m q g cs u = tt
-  over_start (Exit v vs d k is) st m q g cs u = tt
+  over_start _ st m q g cs u = tt
 
   -- where the program's run is over, so is the graph's
   pub over : (n m : ℕ) → fuel most n ≤ m → (c : Items) (s : Store) → Ready c s → (st q : ℕ) (cs : List ℕ) (u : ℕ)
@@ -298,13 +269,6 @@ module _ (p : Program) (typed : is_typed p ≡ true) (mode : MallocMode) (edges 
       (act_filled (length p.vars) (length p.data_vars) a is)) h.0.leads q
   still_start (Close ps ds m is) h st q = begun edges (line m) (One _ ∷ []) _ h.0.way _ tt h.0.leads q
   still_start (If (Ask a m) x y is) h st q = atom_begun a m x y is h.0 q
-  still_start (If (Not c) x y is) h st q = absurd h.0
-  still_start (If (Both c d) x y is) h st q = absurd h.0
-  still_start (If (Either c d) x y is) h st q = absurd h.0
-  still_start (Loop c k b is) h st q = absurd h.0
-  still_start (Again c k b is) h st q = absurd h.0
-  still_start (DoLoop c b is) h st q = absurd h.0
-  still_start (DoAgain c b is) h st q = absurd h.0
   still_start (Enter vs ws m is) h st q =
       begun edges (line m) (enter_row (length p.vars) (length p.data_vars) vs ws) _ h.0.way _
       (enter_filled (length p.vars) (length p.data_vars) vs ws) h.0.leads q
@@ -314,6 +278,7 @@ module _ (p : Program) (typed : is_typed p ≡ true) (mode : MallocMode) (edges 
   still_start (Exit v vs d m is) h st q =
       begun edges (line m) (exit_row (length p.vars) (length p.data_vars) v vs d) _ h.0.way _
       (exit_filled (length p.vars) (length p.data_vars) v vs d) h.0.leads q
+  still_start _ h st q = absurd h.0
 
   -- one step, given the runs after it
   module _ (n : ℕ) (later : (c : Items) (s : Store) → Ready c s → (st q : ℕ) (cs : List ℕ) (u : ℕ)
@@ -357,13 +322,6 @@ module _ (p : Program) (typed : is_typed p ≡ true) (mode : MallocMode) (edges 
     step_goes (Close ps ds m js) h is = long (Close ps ds m js) h is (omega arith)
     step_goes (If (Ask a m) x y js) h is =
         long (If (Ask a m) x y js) h is (atom_size_least (length p.vars) (length p.data_vars) a m x y js)
-    step_goes (If (Not d) x y js) h is = absurd h.0
-    step_goes (If (Both d e) x y js) h is = absurd h.0
-    step_goes (If (Either d e) x y js) h is = absurd h.0
-    step_goes (Loop d k b js) h is = absurd h.0
-    step_goes (Again d k b js) h is = absurd h.0
-    step_goes (DoLoop d b js) h is = absurd h.0
-    step_goes (DoAgain d b js) h is = absurd h.0
     step_goes (Enter vs ws m js) h is =
         long (Enter vs ws m js) h is
         (filled_length (enter_row (length p.vars) (length p.data_vars) vs ws)
@@ -376,6 +334,7 @@ module _ (p : Program) (typed : is_typed p ≡ true) (mode : MallocMode) (edges 
         long (Exit v vs d m js) h is
         (filled_length (exit_row (length p.vars) (length p.data_vars) v vs d)
         (exit_filled (length p.vars) (length p.data_vars) v vs d))
+    step_goes _ h is = absurd h.0
 
   -- while the program's run goes on, so does the graph's
   pub goes_on : (n : ℕ) (c : Items) (s : Store) → Ready c s → (st q : ℕ) (cs : List ℕ) (u : ℕ)

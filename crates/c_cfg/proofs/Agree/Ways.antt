@@ -54,10 +54,8 @@ module _ (Rel : Outcome → Outcome → Type 0) (equal : (o r : Outcome) → ste
 
   pub after_meets : (o : Outcome) (line : ℕ) (next : ℕ → Store → Outcome) (z : Pass) → Meets o line next z → (q : ℕ)
       → Rel o (after_pass z line q (λ t. next q t) StillRunning)
-  after_meets o line next (Passed t) h q = h q
-  after_meets o line next (Faulted k) h q = h q
-  after_meets o line next Halted h q = h q
   after_meets o line next NotPassed h q = h
+  after_meets o line next _ h q = h q
 
   -- one edge, and those after it
   hop : (o : Outcome) (line : ℕ) (next : ℕ → Store → Outcome) (z : Pass) (rest : Store → Pass) (f : Store → Outcome)

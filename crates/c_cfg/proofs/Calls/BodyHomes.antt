@@ -13,7 +13,7 @@ use Rattle.c_types.specs.declared.program.Arg.{Arg}
 use Rattle.c_types.specs.declared.program.Dest.{Dest}
 use Rattle.c_types.specs.declared.program.Dest.TheVariants.{Ptr as PtrDest, Data as DataDest}
 use Rattle.c_types.specs.declared.program.Act.{Act}
-use Rattle.c_types.specs.declared.program.Act.TheVariants.{SetPtr, SetData, Free, Error, Halt, Return, Break, Continue}
+use Rattle.c_types.specs.declared.program.Act.TheVariants.{SetPtr, Break, Continue}
 use Rattle.c_types.specs.declared.program.Act.TheVariants.{Leave as LeaveAct}
 use Rattle.c_types.specs.declared.program.Func.{Func}
 use Rattle.c_types.specs.declared.program.Cond.{Cond}
@@ -167,14 +167,10 @@ module _ (p : Program) (typed : is_typed p ≡ true) where
         → NamesHome (act_names a) → Before spot (r then q) → Sits r q → Sits (act_items p.funcs a m r) q
     act_homed (SetPtr to from) spot m r q e names b k =
         (subst (λ vs. Home p vs to.var) (sym b.opens) (names to.var (inl refl)), k)
-    act_homed (SetData to from) spot m r q e names b k = (tt, k)
-    act_homed (Free g) spot m r q e names b k = (tt, k)
-    act_homed Error spot m r q e names b k = (tt, k)
-    act_homed Halt spot m r q e names b k = (tt, k)
-    act_homed (Return operand) spot m r q e names b k = (tt, k)
     act_homed (LeaveAct f value) spot m r q e names b k = leave_homed (slice_get p.funcs f) f value m r q k
     act_homed Break spot m r q e names b k = (b.again e ∙ sym b.opens, k)
     act_homed Continue spot m r q e names b k = (from_open 0 (r then q) ∙ b.again e ∙ sym b.opens, k)
+    act_homed _ spot m r q e names b k = (tt, k)
 
     closes_homed : (ps ds : List ℕ) (m : ℕ) (r q : Items) → Sits r q → Sits (closes ps ds m r) q
     closes_homed [] [] m r q k = k

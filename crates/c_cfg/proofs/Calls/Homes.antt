@@ -116,16 +116,11 @@ module _ (p : Program) where
   module _ (f : ℕ → ℕ) where
     act_unmarked : (a : Act) (c : Items) → ActHomed a (remark f c) → ActHomed a c
     act_unmarked (SetPtr to from) c h = subst (λ us. Home us to.var) (open_remark f 0 c) h
-    act_unmarked (SetData to from) c h = tt
-    act_unmarked (Free q) c h = tt
-    act_unmarked Error c h = tt
-    act_unmarked Halt c h = tt
-    act_unmarked (Return operand) c h = tt
-    act_unmarked (LeaveAct g value) c h = tt
     act_unmarked Break c h = sym (open_remark f 0 (after_again c)) ∙ sym (ap (open_vars 0) (remark_after f c)) ∙ h
         ∙ open_remark f 0 c
     act_unmarked Continue c h = sym (open_remark f 0 (from_again c)) ∙ sym (ap (open_vars 0) (remark_from f c)) ∙ h
         ∙ open_remark f 0 c
+    act_unmarked _ c h = tt
 
     dest_unmarked : (d : Option Dest) (c : Items) → DestHomed d (remark f c) → DestHomed d c
     dest_unmarked None c h = tt
