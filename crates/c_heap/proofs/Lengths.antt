@@ -1,31 +1,24 @@
 -- How many cells there are after a write and after a cell's end.
 use Rattle.std.proofs.Common.{◌≡◌, ◌≤◌, ℕ, suc, nat_eq, Bool, true, false, if◌then◌else◌, List, [], ◌∷◌, length, refl}
 use Rattle.std.proofs.Common.{ap, arith}
-use Rattle.std.specs.Prelude.{slice_set}
 use Rattle.fore_base.specs.declared.store.Value.{Value}
 use Rattle.fore_base.specs.declared.store.Datum.{Datum}
 use Rattle.fore_base.specs.declared.store.CellRec.{CellRec}
 use Rattle.fore_base.specs.Stores.{with_field, with_datum, dangle_in, without}
 
+-- a cell that stands in the place of one, or one before others
+length_put : (b : Bool) (c d : CellRec) (cs ds : List CellRec) → length ds ≡ length cs
+    → length (if b then d ∷ cs else c ∷ ds) ≡ suc (length cs)
+length_put true c d cs ds rest = refl
+length_put false c d cs ds rest = ap suc rest
+
 pub length_with_field : (cs : List CellRec) (n f : ℕ) (v : Value) → length (with_field cs n f v) ≡ length cs
 length_with_field [] n f v = refl
-length_with_field (c ∷ cs) n f v = here (nat_eq c.number n) (length_with_field cs n f v)
-  where
-    here : (b : Bool) → length (with_field cs n f v) ≡ length cs
-        → length (if b then record c { fields = slice_set c.fields f v } ∷ cs else c ∷ with_field cs n f v)
-        ≡ suc (length cs)
-    here true rest = refl
-    here false rest = ap suc rest
+length_with_field (c ∷ cs) n f v = length_put (nat_eq c.number n) c _ cs _ (length_with_field cs n f v)
 
 pub length_with_datum : (cs : List CellRec) (n f : ℕ) (d : Datum) → length (with_datum cs n f d) ≡ length cs
 length_with_datum [] n f d = refl
-length_with_datum (c ∷ cs) n f d = here (nat_eq c.number n) (length_with_datum cs n f d)
-  where
-    here : (b : Bool) → length (with_datum cs n f d) ≡ length cs
-        → length (if b then record c { datums = slice_set c.datums f d } ∷ cs else c ∷ with_datum cs n f d)
-        ≡ suc (length cs)
-    here true rest = refl
-    here false rest = ap suc rest
+length_with_datum (c ∷ cs) n f d = length_put (nat_eq c.number n) c _ cs _ (length_with_datum cs n f d)
 
 pub length_without : (n : ℕ) (cs : List CellRec) → length (without n cs) ≤ length cs
 length_without n [] = omega arith

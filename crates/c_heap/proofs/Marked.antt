@@ -5,7 +5,7 @@ use Rattle.std.proofs.Common.{ap, ◌∙◌, subst, true≢false, arith}
 use Rattle.std.proofs.lemmas.Bool.{eqb-true, cases_lt}
 use Rattle.std.proofs.lemmas.Bool.Decides.{nat_tests}
 use Rattle.fore_base.specs.declared.store.Value.{Value}
-use Rattle.fore_base.specs.declared.store.Value.TheVariants.{Null, Uninit, Dangling, Cell}
+use Rattle.fore_base.specs.declared.store.Value.TheVariants.{Cell}
 use Rattle.fore_base.specs.declared.store.CellRec.{CellRec}
 use Rattle.fore_base.specs.declared.store.Store.{Store}
 use Rattle.fore_base.specs.Lists.{IsIn}
@@ -72,18 +72,14 @@ set_same (b ∷ bs) zero less = refl
 set_same (b ∷ bs) (suc i) less = set_same bs i (omega (arith, less))
 
 set_grows : (bs : List Bool) (i j : ℕ) → get_or bs j false ≡ true → get_or (set bs i true) j false ≡ true
-set_grows [] i j e = e
 set_grows (b ∷ bs) zero zero e = refl
-set_grows (b ∷ bs) zero (suc j) e = e
-set_grows (b ∷ bs) (suc i) zero e = e
 set_grows (b ∷ bs) (suc i) (suc j) e = set_grows bs i j e
+set_grows _ _ _ e = e
 
 set_new : (bs : List Bool) (i j : ℕ) → get_or (set bs i true) j false ≡ true → (j ≡ i) ⊎ (get_or bs j false ≡ true)
-set_new [] i j e = inr e
 set_new (b ∷ bs) zero zero e = inl refl
-set_new (b ∷ bs) zero (suc j) e = inr e
-set_new (b ∷ bs) (suc i) zero e = inr e
 set_new (b ∷ bs) (suc i) (suc j) e = elim (set_new bs i j e) [ inl same ↦ inl (ap suc same) | inr old ↦ inr old ]
+set_new _ _ _ e = inr e
 
 pub set_length : (bs : List Bool) (i : ℕ) → length (set bs i true) ≡ length bs
 set_length [] i = refl
@@ -235,14 +231,12 @@ note_found s vs k n m w reach (Some i) (found c at) =
 note_value : (s : Store) (vs : List Value) (k : ℕ) (m : Marked) (v : Value) → Walked s vs k m
     → ((n : ℕ) → v ≡ Cell n → Reach s n) → Noting s vs k m (noted s.cells v m)
     × ((n i : ℕ) → v ≡ Cell n → position_in s.cells n ≡ Some i → is_marked (noted s.cells v m) i ≡ true)
-note_value s vs k m Null w reach = (unchanged s vs k m w, λ n i e is. cc)
-note_value s vs k m Uninit w reach = (unchanged s vs k m w, λ n i e is. cc)
-note_value s vs k m Dangling w reach = (unchanged s vs k m w, λ n i e is. cc)
 note_value s vs k m (Cell n) w reach =
     let one : Noting s vs k m (noted_at (position_in s.cells n) m)
     × ((i : ℕ) → position_in s.cells n ≡ Some i → is_marked (noted_at (position_in s.cells n) m) i ≡ true) =
     note_found s vs k n m w (reach n refl) (position_in s.cells n) (positioned n s.cells) in
     (one.0, λ n' i e is. let same : n ≡ n' = cc in one.1 i (subst (λ x. position_in s.cells x ≡ Some i) (sym same) is))
+note_value s vs k m _ w reach = (unchanged s vs k m w, λ n i e is. cc)
 
 -- all the values were noted
 pub note_values : (s : Store) (vs us : List Value) (k : ℕ) (m : Marked) → Walked s vs k m
