@@ -120,13 +120,13 @@ module _ (cs ds : List CellRec) (kept : (m t : ℕ) → HasCellOf cs m t → Has
 -- Cells
 
 -- where numbers differ, the first cell of a number is the one of its struct
-first_shape : (c : CellRec) (es : List CellRec) (n shape : ℕ) → c.number ≡ n → AllDiffer (c ∷ es)
+pub first_shape : (c : CellRec) (es : List CellRec) (n shape : ℕ) → c.number ≡ n → AllDiffer (c ∷ es)
     → HasCellOf (c ∷ es) n shape → c.shape ≡ shape
 first_shape c es n shape same apart (inl e) = e.1
 first_shape c es n shape same apart (inr has) =
     absurd (apart.0 (subst (HasCell es) (sym same) (cell_of_is es n shape has)))
 
-not_first : (c : CellRec) (es : List CellRec) (n shape : ℕ) → nat_eq c.number n ≡ false → HasCellOf (c ∷ es) n shape
+pub not_first : (c : CellRec) (es : List CellRec) (n shape : ℕ) → nat_eq c.number n ≡ false → HasCellOf (c ∷ es) n shape
     → HasCellOf es n shape
 not_first c es n shape other (inl e) = absurd (true≢false (sym (eq-eqb c.number n e.0) ∙ other))
 not_first c es n shape other (inr has) = has

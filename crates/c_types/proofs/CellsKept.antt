@@ -1,6 +1,6 @@
 -- Cells keep their numbers and structs when a field or a datum is written, a cell is made, or another cell ends.
 use Rattle.std.proofs.Common.{◌≡◌, ◌<◌, ◌+◌, ◌⊎◌, inl, inr, ℕ, Bool, true, false, nat_eq, if◌then◌else◌, List, [], ◌∷◌}
-use Rattle.std.proofs.Common.{◌++◌, slice_set, refl, sym, ◌∙◌, subst, arith}
+use Rattle.std.proofs.Common.{◌++◌, refl, sym, ◌∙◌, subst, arith}
 use Rattle.fore_base.specs.declared.store.Value.{Value}
 use Rattle.fore_base.specs.declared.store.Datum.{Datum}
 use Rattle.fore_base.specs.declared.store.CellRec.{CellRec}
@@ -29,23 +29,19 @@ same_heads : (cs : List CellRec) → SameHeads cs cs
 same_heads [] = tt
 same_heads (c ∷ cs) = (refl, refl, same_heads cs)
 
+-- a cell that stands in the place of one, or one before others
+heads_put : (b : Bool) (c d : CellRec) (cs ds : List CellRec) → c.number ≡ d.number → c.shape ≡ d.shape
+    → SameHeads cs ds → SameHeads (c ∷ cs) (if b then d ∷ cs else c ∷ ds)
+heads_put true c d cs ds number shape rest = (number, shape, same_heads cs)
+heads_put false c d cs ds number shape rest = (refl, refl, rest)
+
 pub heads_with : (n f : ℕ) (v : Value) (cs : List CellRec) → SameHeads cs (with_field cs n f v)
 heads_with n f v [] = tt
-heads_with n f v (c ∷ cs) = here (nat_eq c.number n) (heads_with n f v cs)
-  where
-    here : (b : Bool) → SameHeads cs (with_field cs n f v)
-        → SameHeads (c ∷ cs) (if b then record c { fields = slice_set c.fields f v } ∷ cs else c ∷ with_field cs n f v)
-    here true rest = (refl, refl, same_heads cs)
-    here false rest = (refl, refl, rest)
+heads_with n f v (c ∷ cs) = heads_put (nat_eq c.number n) c _ cs _ refl refl (heads_with n f v cs)
 
 pub heads_with_datum : (n f : ℕ) (d : Datum) (cs : List CellRec) → SameHeads cs (with_datum cs n f d)
 heads_with_datum n f d [] = tt
-heads_with_datum n f d (c ∷ cs) = here (nat_eq c.number n) (heads_with_datum n f d cs)
-  where
-    here : (b : Bool) → SameHeads cs (with_datum cs n f d)
-        → SameHeads (c ∷ cs) (if b then record c { datums = slice_set c.datums f d } ∷ cs else c ∷ with_datum cs n f d)
-    here true rest = (refl, refl, same_heads cs)
-    here false rest = (refl, refl, rest)
+heads_with_datum n f d (c ∷ cs) = heads_put (nat_eq c.number n) c _ cs _ refl refl (heads_with_datum n f d cs)
 
 heads_cell : (cs ds : List CellRec) (m : ℕ) → SameHeads cs ds → HasCell ds m → HasCell cs m
 heads_cell [] [] m same has = has
@@ -80,7 +76,7 @@ heads_below next (c ∷ cs) (d ∷ ds) same below =
 
 -- The end of a cell
 
-without_cell : (n m : ℕ) (cs : List CellRec) → HasCell (without n cs) m → HasCell cs m
+pub without_cell : (n m : ℕ) (cs : List CellRec) → HasCell (without n cs) m → HasCell cs m
 without_cell n m [] has = has
 without_cell n m (c ∷ cs) has = here (nat_eq c.number n) (without_cell n m cs) has
   where

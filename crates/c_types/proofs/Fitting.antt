@@ -35,6 +35,10 @@ abbrev pub Gives : {A : Type 0} → (A → Type 0) → Result A Fault → Type 0
 Gives P (Ok a) = P a
 Gives P (Err k) = Unit {0}
 
+pub always : {A : Type 0} (r : Result A Fault) → Gives (λ a. Unit {0}) r
+always (Ok a) = tt
+always (Err k) = tt
+
 pub onward_gives : {A B : Type 0} (P : A → Type 0) (Q : B → Type 0) (r : Result A Fault) (next : A → Result B Fault)
     → Gives P r → ((a : A) → P a → Gives Q (next a)) → Gives Q (onward r next)
 onward_gives P Q (Ok a) next this further = further a this

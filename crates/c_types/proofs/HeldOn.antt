@@ -1,7 +1,7 @@
 -- Changes after which each variable that held a cell still holds it: of several changes one after the other it is
 -- enough that none is of a variable that held a cell before the first.
 use Rattle.std.proofs.Common.{◌≡◌, inl, inr, ℕ, zero, suc, Bool, true, false, ◌||◌, nat_lt, if◌then◌else◌}
-use Rattle.std.proofs.Common.{Option, Some, None, Result, Ok, Err, List, [], ◌∷◌, slice_set, slice_index_or, refl, sym}
+use Rattle.std.proofs.Common.{Option, Some, None, Result, Ok, List, [], ◌∷◌, slice_set, slice_index_or, refl, sym}
 use Rattle.std.proofs.Common.{ap, ◌∙◌, true≢false}
 use Rattle.fore_base.specs.declared.fault.Fault.{Fault}
 use Rattle.fore_base.specs.declared.store.Value.{Value}
@@ -16,7 +16,7 @@ use Rattle.c_types.specs.declared.program.Arg.TheVariants.{Ptr as PtrArg, Data a
 use Rattle.c_types.specs.Control.{insert, ptr_vars, datum_vars, with_result}
 use Rattle.c_types.specs.Steps.{◌>>=◌, read_op, read_data_op, give, enter, give_back, without, leave}
 use Rattle.c_types.specs.Losses.{is_cell, hold_cell, vars_hold}
-use Rattle.c_types.proofs.Fitting.{Gives, onward_gives}
+use Rattle.c_types.proofs.Fitting.{Gives, always, onward_gives}
 use Rattle.c_types.proofs.LeakKept.{KeptCell, Keeps, same_cells, or_none}
 
 -- each variable that holds a cell in s holds it in t, and no field of a cell lost one
@@ -33,7 +33,7 @@ cell_place [] n h = absurd h
 cell_place (v ∷ vs) n (inl e) = (0, sym e)
 cell_place (v ∷ vs) n (inr h) = let at = cell_place vs n h in (suc at.0, at.1)
 
-place_cell : (vs : List Value) (k n : ℕ) → slice_index_or vs k Uninit ≡ Cell n → IsIn (Cell n) vs
+pub place_cell : (vs : List Value) (k n : ℕ) → slice_index_or vs k Uninit ≡ Cell n → IsIn (Cell n) vs
 place_cell [] k n e = cc
 place_cell (v ∷ vs) zero n e = inl (sym e)
 place_cell (v ∷ vs) (suc k) n e = inr (place_cell vs k n e)
@@ -111,10 +111,6 @@ result_parts : (s : Store) (v : Option VarRef) (vs : List VarRef) → vars_hold 
     → vars_hold s vs ≡ false
 result_parts s None vs none = none
 result_parts s (Some v) vs none = (vars_parts s v vs none).1
-
-always : {A : Type 0} (r : Result A Fault) → Gives (λ a. Unit {0}) r
-always (Ok a) = tt
-always (Err k) = tt
 
 give_holds : (u s : Store) (v : VarRef) (a : Arg) → first_free u v → HoldsOn u s → Gives (HoldsOn u) (give s v a)
 give_holds u s (PtrVar x) (PtrArg q) none h =

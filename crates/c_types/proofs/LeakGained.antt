@@ -41,7 +41,8 @@ use Rattle.c_types.specs.Steps.{Goes, Faults, read, read_data_rhs, look_at, atom
 use Rattle.c_types.specs.Steps.{assign_data, free_path, settle, settled, act_turn, test_turn, turn_of}
 use Rattle.c_types.specs.Steps.{read_op, read_data_op, give, enter, give_back, without, leave, hand, hand_over, exit}
 use Rattle.c_types.specs.Losses.{is_cell, got_cell, assign_loses, act_loses, loses}
-use Rattle.c_types.proofs.Fitting.{Gives, onward_gives}
+use Rattle.c_types.proofs.Fitting.{Gives, always, onward_gives}
+use Rattle.c_types.proofs.HeldOn.{place_cell}
 use Rattle.c_types.proofs.Turns.{finished_stops}
 
 -- what the value refers to is reached
@@ -173,13 +174,8 @@ datum_adds s n f d = record { vars = λ m h. by_var h; cells = with_datum_added 
 
 -- What is read refers to what is reached
 
-var_in : (vs : List Value) (x n : ℕ) → slice_index_or vs x Uninit ≡ Cell n → IsIn (Cell n) vs
-var_in [] x n e = cc
-var_in (v ∷ vs) zero n e = inl (sym e)
-var_in (v ∷ vs) (suc x) n e = inr (var_in vs x n e)
-
 pub var_told : (s : Store) (x : ℕ) → IsTold s (var_of s x)
-var_told s x n e = by_var (var_in s.vars x n e)
+var_told s x n e = by_var (place_cell s.vars x n e)
 
 field_told_in : (s : Store) (m f n : ℕ) → Reach s m → (cs : List CellRec) → ((c : CellRec) → IsIn c cs → IsIn c s.cells)
     → field_in cs m f ≡ Cell n → Reach s n
@@ -190,7 +186,7 @@ field_told_in s m f n reached (c ∷ cs) there e =
     here : (b : Bool) → nat_eq c.number m ≡ b → (if b then slice_index_or c.fields f Uninit else field_in cs m f)
         ≡ Cell n → (field_in cs m f ≡ Cell n → Reach s n) → Reach s n
     here true is g rest = by_field c (there c (inl refl)) (subst (Reach s) (sym (eqb-true c.number m is)) reached)
-        (var_in c.fields f n g)
+        (place_cell c.fields f n g)
     here false is g rest = rest g
 
 field_told : (s : Store) (m f : ℕ) → Reach s m → IsTold s (field_in s.cells m f)
@@ -274,10 +270,6 @@ read_op_told s (OpPath q) = here (read s q) refl
     here : (r : Result Value Fault) → read s q ≡ r → Gives (IsTold s) r
     here (Ok v) is = read_told s q v is
     here (Err k) is = tt
-
-always : {A : Type 0} (r : Result A Fault) → Gives (λ a. Unit {0}) r
-always (Ok a) = tt
-always (Err k) = tt
 
 give_adds : (u s : Store) (v : VarRef) (a : Arg) → Adds u s → Gives (Adds u) (give s v a)
 give_adds u s (PtrVar x) (PtrArg q) a =

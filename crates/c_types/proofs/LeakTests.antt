@@ -251,7 +251,7 @@ exit_clean s v vs d =
     onward_clean (hand_over s v d) (λ t. Ok (without (with_result v vs) t)) (hand_over_clean s v d) (λ t. tt)
 
 -- what a change gives, by what it does where it gives something
-gives_by : {A : Type 0} (P : A → Type 0) (r : Result A Fault) → ((a : A) → r ≡ Ok a → P a) → Gives P r
+pub gives_by : {A : Type 0} (P : A → Type 0) (r : Result A Fault) → ((a : A) → r ≡ Ok a → P a) → Gives P r
 gives_by P (Ok a) h = h a refl
 gives_by P (Err k) h = tt
 

@@ -35,9 +35,9 @@ use Rattle.c_types.specs.Steps.{assign_new, assign, look_at, all_dead, settle, s
 use Rattle.c_types.specs.Steps.{atom_of, turn_of}
 use Rattle.c_types.specs.Runs.{empty_store}
 use Rattle.c_types.specs.Fits.{PointsTo, FitsProgram, Visited, start, step, ActFits, ItemsFit}
-use Rattle.c_types.proofs.Fitting.{Gives, onward_gives, PathLeads, path_leads, path_below, Sound, is_sound, sound_fits}
-use Rattle.c_types.proofs.Fitting.{sound_proper, read_gives, path_sound, set_datum_sound, store_datum_sound, kill_sound}
-use Rattle.c_types.proofs.Fitting.{grown_sound, grown_points, freed_sound, empty_sound}
+use Rattle.c_types.proofs.Fitting.{Gives, always, onward_gives, PathLeads, path_leads, path_below, Sound, is_sound}
+use Rattle.c_types.proofs.Fitting.{sound_fits, sound_proper, read_gives, path_sound, set_datum_sound, store_datum_sound}
+use Rattle.c_types.proofs.Fitting.{kill_sound, grown_sound, grown_points, freed_sound, empty_sound}
 use Rattle.c_types.proofs.ItemsTyped.{then_fit, opened_fit, after_fit, from_fit, exit_fit, start_fits}
 use Rattle.c_types.proofs.WellTyped.{has_shapes_typed, has_vars_typed}
 
@@ -123,10 +123,6 @@ module _ (p : Program) (typed : is_typed p ≡ true) where
       let some : (t : ℕ) × (target to ≡ Some t) = some_target (target to) e in
       path_sound p s to some.0 Null sound (path_leads p to some.0 some.1) tt
   assign_sound mode s to (RhsNew shape) x e sound = assign_new_sound (makes_cell mode x) s to shape e sound
-
-  always : {A : Type 0} (r : Result A Fault) → Gives (λ a. Unit {0}) r
-  always (Ok a) = tt
-  always (Err k) = tt
 
   write_data_sound : (s : Store) (to : DataPath) (d : Datum) → Sound p s → Gives (Sound p) (write_data s to d)
   write_data_sound s (DataVar x) d sound = set_datum_sound p s x d sound
