@@ -48,7 +48,7 @@ alike_chain s t u a b =
           (chain (moved_map (cell_renamed b.to) to_t) to_u));
     }
 
-unset_renamed : (f : ℕ → ℕ) (n : ℕ) → map (value_renamed f) (replicate n Uninit) ≡ replicate n Uninit
+pub unset_renamed : (f : ℕ → ℕ) (n : ℕ) → map (value_renamed f) (replicate n Uninit) ≡ replicate n Uninit
 unset_renamed f zero = refl
 unset_renamed f (suc n) = ap (λ vs. Uninit ∷ vs) (unset_renamed f n)
 

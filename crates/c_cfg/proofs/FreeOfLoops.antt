@@ -48,7 +48,7 @@ no_heads (Enter vs ws m is) r e = no_heads is r e
 no_heads (Leave v vs a m is) r e = no_heads is r e
 no_heads (Exit v vs d m is) r e = no_heads is r e
 
-asks_place : (c : Test) (x y r : Items) → IsIn (ask c x y r) (test_places c x y r)
+pub asks_place : (c : Test) (x y r : Items) → IsIn (ask c x y r) (test_places c x y r)
 asks_place (Ask a m) x y r = inl refl
 asks_place (Not c) x y r = asks_place c y x r
 asks_place (Both c d) x y r = in_left _ (test_places c (If d x y Done) y r) _ (asks_place c (If d x y Done) y r)
@@ -126,7 +126,7 @@ some_head (Exit v vs d m is) r e = let h = some_head is r e in
 
 -- Entries
 
-in_numbers : (at : Items → ℕ) (mids : Items → List ℕ) (h : Items) (ps : List Items) → IsIn h ps
+pub in_numbers : (at : Items → ℕ) (mids : Items → List ℕ) (h : Items) (ps : List Items) → IsIn h ps
     → IsIn (at h) (numbers at mids ps)
 in_numbers at mids h [] i = absurd i
 in_numbers at mids h (c ∷ cs) (inl e) = inl (ap at e)

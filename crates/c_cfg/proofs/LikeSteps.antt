@@ -1,8 +1,8 @@
 -- Edges do the same to alike stores.
 use Rattle.std.proofs.Common.{◌≡◌, ◌<◌, ◌⊎◌, inl, inr, ℕ, zero, suc, Bool, true, false, nat_eq, if◌then◌else◌}
-use Rattle.std.proofs.Common.{List, [], ◌∷◌, ◌++◌, length, map, replicate, slice_get, slice_set, slice_index_or}
+use Rattle.std.proofs.Common.{List, [], ◌∷◌, ◌++◌, length, map, slice_get, slice_set, slice_index_or}
 use Rattle.std.proofs.Common.{option_map, refl, sym, ap, ap₂, ◌∙◌, subst, arith, Option, Some, None, Result, Ok, Err}
-use Rattle.std.proofs.lemmas.Bool.{eqb-true, eq-eqb, cases_eq}
+use Rattle.std.proofs.lemmas.Bool.{eqb-true, eq-eqb, ne_eqb, cases_eq}
 use Rattle.std.proofs.lemmas.List.{map-append, map-set}
 use Rattle.std.proofs.lemmas.Option.{slice_get-map}
 use Rattle.fore_base.specs.declared.fault.Fault.{Fault}
@@ -20,6 +20,7 @@ use Rattle.fore_base.specs.Stores.{with_datum, dangle, dangle_in, without, grown
 use Rattle.fore_base.specs.Heap.{HasCell, NamesCell, AllDiffer, IsProper, leaks, value_renamed, cell_renamed, IsAlike}
 use Rattle.fore_base.specs.Shapes.{targets_of}
 use Rattle.c_types.specs.Steps.{same_values, same_datums, agrees, blank}
+use Rattle.c_types.proofs.CellsKept.{without_cell}
 use Rattle.c_cfg.specs.declared.graph.PtrArg.{PtrArg}
 use Rattle.c_cfg.specs.declared.graph.PtrArg.TheVariants.{Var as PtrVar, Null as PtrNull}
 use Rattle.c_cfg.specs.declared.graph.DataArg.{DataArg}
@@ -34,9 +35,10 @@ use Rattle.c_cfg.specs.Edges.{Pass, Passed, Faulted, Halted, NotPassed, arg_of, 
 use Rattle.c_cfg.specs.Edges.{struct_of, target_of, same_struct, may_stand, onto, if_there, stored, stored_datum}
 use Rattle.c_cfg.specs.Edges.{stored_const, if_agreed, raw_step, leak_tested, choice_of, gstep}
 use Rattle.c_cfg.specs.Alike.{LikePass}
+use Rattle.c_cfg.proofs.AlikeStores.{unset_renamed}
 use Rattle.c_cfg.proofs.Moving.{Moved, moved, permuted, back, moved_has, moved_differ, moved_front, find, moved_find}
 use Rattle.c_cfg.proofs.Moving.{put, moved_put, moved_without}
-use Rattle.c_cfg.proofs.Properly.{Onward, var_named, without_has, raw_proper}
+use Rattle.c_cfg.proofs.Properly.{Onward, var_named, raw_proper}
 use Rattle.c_cfg.proofs.LeaksAlike.{leaks_alike}
 
 -- The words on cells as `find` and `put`
@@ -79,16 +81,9 @@ module _ (to : ℕ → ℕ) (all : List CellRec) (one : (m n : ℕ) → HasCell 
   same_number : (m n : ℕ) → HasCell all m → HasCell all n → nat_eq (to m) (to n) ≡ nat_eq m n
   same_number m n hm hn = here (cases_eq m n)
     where
-      not_equal : (a b : ℕ) → (a ≡ b → ⊥) → nat_eq a b ≡ false
-      not_equal a b ne = by (nat_eq a b) refl
-        where
-          by : (x : Bool) → nat_eq a b ≡ x → nat_eq a b ≡ false
-          by true e = absurd (ne (eqb-true a b e))
-          by false e = e
-
       here : (m ≡ n) ⊎ (m ≡ n → ⊥) → nat_eq (to m) (to n) ≡ nat_eq m n
       here (inl e) = eq-eqb (to m) (to n) (ap to e) ∙ sym (eq-eqb m n e)
-      here (inr ne) = not_equal (to m) (to n) (λ e. ne (one m n hm hn e)) ∙ sym (not_equal m n ne)
+      here (inr ne) = ne_eqb (to m) (to n) (λ e. ne (one m n hm hn e)) ∙ sym (ne_eqb m n ne)
 
   abbrev Within : List CellRec → Type 0
   Within cs = (m : ℕ) → HasCell cs m → HasCell all m
@@ -339,7 +334,7 @@ module _ (shapes : List Shape) (s t : Store) (a : IsAlike s t) (ps : IsProper s)
   free_like Dangling h = refl
   free_like (Cell n) h = record {
     to = a.to;
-    one_to_one = λ m k hm hk e. a.one_to_one m k (without_has n m s.cells hm) (without_has n k s.cells hk) e;
+    one_to_one = λ m k hm hk e. a.one_to_one m k (without_cell n m s.cells hm) (without_cell n k s.cells hk) e;
     vars = ap (λ vs. map (dangle (a.to n)) vs) a.vars ∙ dangles_renamed a.to s.cells a.one_to_one n h s.vars ps.vars;
     data_vars = a.data_vars;
     cells =
@@ -383,10 +378,6 @@ module _ (shapes : List Shape) (s t : Store) (a : IsAlike s t) (ps : IsProper s)
       ap₂ (λ d ds. d ∷ ds)
       (ap₂ (λ n fs. record c { number = n; fields = fs }) (old_number c.number (w c.number (inl refl)))
       (values_old c.fields h.0)) (cells_old cs (λ m k. w m (inr k)) h.1)
-
-  unset_renamed : (f : ℕ → ℕ) (n : ℕ) → map (value_renamed f) (replicate n Uninit) ≡ replicate n Uninit
-  unset_renamed f zero = refl
-  unset_renamed f (suc n) = ap (λ vs. Uninit ∷ vs) (unset_renamed f n)
 
   new_blank : (shape : ℕ) → cell_renamed next_to (blank shapes s.next shape) ≡ blank shapes t.next shape
   new_blank shape =

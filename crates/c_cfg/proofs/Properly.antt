@@ -127,16 +127,6 @@ fields_with_datum all n f d (c ∷ cs) h = here (nat_eq c.number n) (fields_with
 
 -- The end of a cell
 
-pub without_has : (n m : ℕ) (cs : List CellRec) → HasCell (without n cs) m → HasCell cs m
-without_has n m [] h = h
-without_has n m (c ∷ cs) h = here (nat_eq c.number n) (without_has n m cs) h
-  where
-    here : (b : Bool) → (HasCell (without n cs) m → HasCell cs m)
-        → HasCell (if b then without n cs else dangle_in n c ∷ without n cs) m → HasCell (c ∷ cs) m
-    here true rest h = inr (rest h)
-    here false rest (inl e) = inl e
-    here false rest (inr h) = inr (rest h)
-
 has_without : (n m : ℕ) (cs : List CellRec) → nat_eq m n ≡ false → HasCell cs m → HasCell (without n cs) m
 has_without n m [] other h = absurd h
 has_without n m (c ∷ cs) other (inl e) =

@@ -1,8 +1,9 @@
 -- In a store that fits a program, a cell has the fields of its struct, and what stands in them is of the declared
 -- struct.
-use Rattle.std.proofs.Common.{◌≡◌, ◌<◌, inl, inr, ℕ, zero, suc, Bool, true, false, nat_eq, if◌then◌else◌, Some, List}
-use Rattle.std.proofs.Common.{[], ◌∷◌, length, slice_get, slice_index_or, refl, sym, ap, ◌∙◌, subst, true≢false, arith}
+use Rattle.std.proofs.Common.{◌≡◌, ◌<◌, ℕ, zero, suc, Bool, true, false, nat_eq, if◌then◌else◌, Some, List}
+use Rattle.std.proofs.Common.{[], ◌∷◌, slice_get, slice_index_or, refl, sym, ap, subst, arith}
 use Rattle.std.proofs.lemmas.Bool.{eqb-true, eq-eqb}
+use Rattle.std.proofs.lemmas.Option.{slice_get-get_or}
 use Rattle.fore_base.specs.declared.shape.Shape.{Shape}
 use Rattle.fore_base.specs.declared.store.Value.{Value}
 use Rattle.fore_base.specs.declared.store.Value.TheVariants.{Uninit, Cell}
@@ -10,18 +11,11 @@ use Rattle.fore_base.specs.declared.store.Datum.TheVariants.{Undefined}
 use Rattle.fore_base.specs.declared.store.CellRec.{CellRec}
 use Rattle.fore_base.specs.Lists.{Every}
 use Rattle.fore_base.specs.Stores.{field_in, datum_in}
-use Rattle.fore_base.specs.Heap.{HasCell, AllDiffer}
+use Rattle.fore_base.specs.Heap.{AllDiffer}
 use Rattle.fore_base.specs.Shapes.{targets_of, datums_of}
 use Rattle.c_types.specs.Fits.{HasCellOf, PointsTo, PointsToEach, CellFits}
-use Rattle.c_types.proofs.CellsFit.{IsAt}
-use Rattle.c_types.proofs.CellsKept.{cell_of_is}
+use Rattle.c_types.proofs.CellsFit.{IsAt, first_shape, not_first}
 use Rattle.c_cfg.specs.Edges.{field_of, datum_field_of, struct_of, may_stand}
-
--- an item that is there
-get_there : {A : Type 0} (xs : List A) (i : ℕ) (d : A) → i < length xs → slice_get xs i ≡ Some (slice_index_or xs i d)
-get_there [] i d less = absurd (omega (arith, less))
-get_there (x ∷ xs) zero d less = refl
-get_there (x ∷ xs) (suc i) d less = get_there xs i d (omega (arith, less))
 
 at_is : (ts : List ℕ) (i t : ℕ) → IsAt ts i t → slice_get ts i ≡ Some t
 at_is [] i t at = absurd at
@@ -35,25 +29,14 @@ value_there cs (u ∷ ts) [] i t points at = absurd points
 value_there cs (u ∷ ts) (v ∷ vs) zero t points at = refl
 value_there cs (u ∷ ts) (v ∷ vs) (suc i) t points at = value_there cs ts vs i t points.1 at
 
--- the first cell of a number is the only one
-first_struct : (c : CellRec) (cs : List CellRec) (n t : ℕ) → c.number ≡ n → (HasCell cs c.number → ⊥)
-    → HasCellOf (c ∷ cs) n t → c.shape ≡ t
-first_struct c cs n t is apart (inl e) = e.1
-first_struct c cs n t is apart (inr has) = absurd (apart (subst (HasCell cs) (sym is) (cell_of_is cs n t has)))
-
-later : (c : CellRec) (cs : List CellRec) (n t : ℕ) → nat_eq c.number n ≡ false → HasCellOf (c ∷ cs) n t
-    → HasCellOf cs n t
-later c cs n t other (inl e) = absurd (true≢false (sym (eq-eqb c.number n e.0) ∙ other))
-later c cs n t other (inr has) = has
-
 pub struct_there : (cs : List CellRec) (n t : ℕ) → AllDiffer cs → HasCellOf cs n t → struct_of cs n ≡ Some t
 struct_there [] n t apart has = absurd has
 struct_there (c ∷ cs) n t apart has = here (nat_eq c.number n) refl (struct_there cs n t apart.1)
   where
     here : (b : Bool) → nat_eq c.number n ≡ b → (HasCellOf cs n t → struct_of cs n ≡ Some t)
         → (if b then Some c.shape else struct_of cs n) ≡ Some t
-    here true is rest = ap Some (first_struct c cs n t (eqb-true c.number n is) apart.0 has)
-    here false is rest = rest (later c cs n t is has)
+    here true is rest = ap Some (first_shape c cs n t (eqb-true c.number n is) apart has)
+    here false is rest = rest (not_first c cs n t is has)
 
 module _ (shapes : List Shape) (all : List CellRec) where
   pub field_there : (cs : List CellRec) (n t f k : ℕ) → AllDiffer cs → Every (CellFits shapes all) cs → HasCellOf cs n t
@@ -68,8 +51,8 @@ module _ (shapes : List Shape) (all : List CellRec) where
       here true is rest =
           value_there all (targets_of shapes c.shape) c.fields f k fit.0.fields
           (subst (λ s. IsAt (targets_of shapes s) f k)
-          (sym (first_struct c cs n t (eqb-true c.number n is) apart.0 has)) at)
-      here false is rest = rest (later c cs n t is has)
+          (sym (first_shape c cs n t (eqb-true c.number n is) apart has)) at)
+      here false is rest = rest (not_first c cs n t is has)
 
   pub datum_there : (cs : List CellRec) (n t f : ℕ) → AllDiffer cs → Every (CellFits shapes all) cs → HasCellOf cs n t
       → f < datums_of shapes t → datum_field_of cs n f ≡ Some (datum_in cs n f)
@@ -82,9 +65,9 @@ module _ (shapes : List Shape) (all : List CellRec) where
           ≡ Some (if b then slice_index_or c.datums f Undefined else datum_in cs n f)
       here true is rest =
           let same : datums_of shapes c.shape ≡ datums_of shapes t =
-          ap (datums_of shapes) (first_struct c cs n t (eqb-true c.number n is) apart.0 has) in
-          get_there c.datums f Undefined (omega (arith, less, same, fit.0.datums))
-      here false is rest = rest (later c cs n t is has)
+          ap (datums_of shapes) (first_shape c cs n t (eqb-true c.number n is) apart has) in
+          slice_get-get_or c.datums f Undefined (omega (arith, less, same, fit.0.datums))
+      here false is rest = rest (not_first c cs n t is has)
 
 -- a value of the declared struct may stand in a field
 pub stands_there : (shapes : List Shape) (cs : List CellRec) (n t f k : ℕ) (v : Value) → AllDiffer cs → HasCellOf cs n t

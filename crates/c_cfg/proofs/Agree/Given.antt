@@ -22,8 +22,8 @@ use Rattle.c_types.specs.declared.program.Arg.TheVariants.{Ptr as GivenPtr, Data
 use Rattle.c_types.specs.Program.{Program, path_target, data_op_typed, arg_typed}
 use Rattle.c_types.specs.Fits.{PointsTo}
 use Rattle.c_types.specs.Steps.{read, read_data_op, give}
-use Rattle.c_types.proofs.Fitting.{Gives, onward_gives, PathLeads, path_leads, Sound, path_sound, set_datum_sound}
-use Rattle.c_types.proofs.Fitting.{read_gives}
+use Rattle.c_types.proofs.Fitting.{Gives, always, onward_gives, PathLeads, path_leads, Sound, path_sound}
+use Rattle.c_types.proofs.Fitting.{set_datum_sound, read_gives}
 use Rattle.c_types.proofs.StepLaws.{some_target, agreed}
 use Rattle.c_cfg.specs.declared.graph.PtrArg.TheVariants.{Var as PtrVar, Null as PtrNull}
 use Rattle.c_cfg.specs.declared.graph.DataArg.TheVariants.{Var as ArgVar, Known as ArgKnown}
@@ -45,10 +45,6 @@ pub tested_onto : {A : Type 0} (r : Result A Fault) (f : A → Store) (k : Store
     → then_pass (leak_tested (onto r (λ a. Passed (f a)))) k ≡ onto r (λ a. then_pass (leak_tested (Passed (f a))) k)
 tested_onto (Ok a) f k = refl
 tested_onto (Err e) f k = refl
-
-pub always : {A : Type 0} (r : Result A Fault) → Gives (λ a. Unit {0}) r
-always (Ok a) = tt
-always (Err k) = tt
 
 -- the path of a variable alone
 abbrev pub bare : ℕ → Path

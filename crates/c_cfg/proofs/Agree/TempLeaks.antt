@@ -6,28 +6,20 @@ use Rattle.fore_base.specs.declared.store.Value.TheVariants.{Uninit, Cell}
 use Rattle.fore_base.specs.declared.store.Datum.{Datum}
 use Rattle.fore_base.specs.declared.store.CellRec.{CellRec}
 use Rattle.fore_base.specs.declared.store.Store.{Store}
-use Rattle.fore_base.specs.Lists.{IsIn, Paired}
+use Rattle.fore_base.specs.Lists.{IsIn}
 use Rattle.fore_base.specs.Stores.{grown}
 use Rattle.fore_base.specs.Heap.{Reach, by_var, by_field, Leaked, leaks}
-use Rattle.fore_base.proofs.ListLemmas.{paired_same}
+use Rattle.fore_base.proofs.ListLemmas.{in_left, in_middle, in_push}
 use Rattle.fore_base.proofs.Leaks.{leaks_leaked, sound_reached}
 use Rattle.c_types.specs.Steps.{blank}
-use Rattle.c_types.proofs.LeakKept.{KeptCell, kept_sound}
+use Rattle.c_types.proofs.LeakKept.{same_cells, kept_sound}
 use Rattle.c_cfg.proofs.Agree.Temporaries.{ext, ext0}
-
-front_in : {X : Type 0} (x : X) (xs ys : List X) → IsIn x xs → IsIn x (xs ++ ys)
-front_in x [] ys h = absurd h
-front_in x (z ∷ xs) ys (inl e) = inl e
-front_in x (z ∷ xs) ys (inr h) = inr (front_in x xs ys h)
-
-same_cells : (cs : List CellRec) → Paired KeptCell cs cs
-same_cells cs = paired_same KeptCell (λ c. (refl, λ n h. h)) cs
 
 -- temporaries hide cells, and show none
 pub hidden : (s : Store) (x y : Value) (d e : Datum) → leaks s ≡ false → leaks (ext s x y d e) ≡ false
 hidden s x y d e sound =
     kept_sound s (ext s x y d e)
-    (record { vars = λ n h. front_in (Cell n) s.vars (x ∷ y ∷ []) h; cells = same_cells s.cells }) sound
+    (record { vars = λ n h. in_left (Cell n) s.vars (x ∷ y ∷ []) h; cells = same_cells s.cells }) sound
 
 unset_in : (n : ℕ) (vs : List Value) → IsIn (Cell n) (vs ++ Uninit ∷ Uninit ∷ []) → IsIn (Cell n) vs
 unset_in n [] (inl e) = cc
@@ -55,30 +47,21 @@ module _ (shapes : List Shape) (s : Store) (shape : ℕ) (y : Value) (d e : Datu
   abbrev pub with_new : Store
   with_new = ext (grown s new_cell) (Cell s.next) y d e
 
-  named : (vs : List Value) → IsIn (Cell s.next) (vs ++ Cell s.next ∷ y ∷ [])
-  named [] = inl refl
-  named (v ∷ vs) = inr (named vs)
-
   still : {n : ℕ} → Reach s n → Reach with_new n
-  still {n} (by_var h) = by_var (front_in (Cell n) s.vars (Cell s.next ∷ y ∷ []) h)
+  still {n} (by_var h) = by_var (in_left (Cell n) s.vars (Cell s.next ∷ y ∷ []) h)
   still {n} (by_field b there reached field) =
-      by_field b (front_in b s.cells (new_cell ∷ []) there) (still reached) field
-
-  either : (b : CellRec) (bs : List CellRec) → IsIn b (bs ++ new_cell ∷ []) → IsIn b bs ⊎ (b ≡ new_cell)
-  either b [] (inl e) = inr e
-  either b [] (inr h) = absurd h
-  either b (a ∷ bs) (inl e) = inl (inl e)
-  either b (a ∷ bs) (inr h) = elim (either b bs h) [ inl g ↦ inl (inr g) | inr e ↦ inr e ]
+      by_field b (in_left b s.cells (new_cell ∷ []) there) (still reached) field
 
   pub fresh : leaks s ≡ false → leaks with_new ≡ false
   fresh sound = here (leaks with_new) refl
     where
       reached : (b : CellRec) → IsIn b s.cells ⊎ (b ≡ new_cell) → Reach with_new b.number
       reached b (inl h) = still (sound_reached s sound b h)
-      reached b (inr e) = subst (λ (a : CellRec). Reach with_new a.number) (sym e) (by_var (named s.vars))
+      reached b (inr e) = subst (λ (a : CellRec). Reach with_new a.number) (sym e)
+          (by_var (in_middle (Cell s.next) s.vars (y ∷ [])))
 
       leaked : Leaked with_new → ⊥
-      leaked l = l.unreached (reached l.cell (either l.cell s.cells l.is_there))
+      leaked l = l.unreached (reached l.cell (in_push new_cell l.cell s.cells l.is_there))
 
       here : (b : Bool) → leaks with_new ≡ b → leaks with_new ≡ false
       here true is = absurd (leaked (leaks_leaked with_new is))

@@ -1,6 +1,6 @@
 -- What steps do to a variable that holds no cell, and that they do not set: it still holds none.
 use Rattle.std.proofs.Common.{◌≡◌, inl, inr, ℕ, zero, suc, Bool, true, false, true≢false, nat_lt, if◌then◌else◌, Option}
-use Rattle.std.proofs.Common.{Some, None, Result, Ok, Err, List, [], ◌∷◌, map, replicate, slice_set, slice_index_or}
+use Rattle.std.proofs.Common.{Some, None, Result, Ok, List, [], ◌∷◌, map, replicate, slice_set, slice_index_or}
 use Rattle.std.proofs.Common.{refl, sym, ap, ◌∙◌, subst}
 use Rattle.fore_base.specs.declared.fault.Fault.{Fault}
 use Rattle.fore_base.specs.declared.shape.Shape.{Shape}
@@ -30,9 +30,9 @@ use Rattle.c_types.specs.Steps.{assign_new, assign, assign_data, free_path, give
 use Rattle.c_types.specs.Steps.{hand_over, exit}
 use Rattle.c_types.specs.Losses.{is_cell}
 use Rattle.c_types.specs.Runs.{empty_store}
-use Rattle.c_types.proofs.Fitting.{Gives, onward_gives}
+use Rattle.c_types.proofs.Fitting.{Gives, always, onward_gives}
 use Rattle.c_types.proofs.LeakKept.{unset_at, write_from_vars, store_datum_vars}
-use Rattle.c_cfg.proofs.Agree.Given.{always}
+use Rattle.c_types.proofs.LeakTests.{gives_by}
 
 -- Lists of values
 
@@ -110,10 +110,6 @@ empty_safe n m x = by n x
     by (suc n) zero = refl
     by (suc n) (suc x) = by n x
 
-gives_from : {A : Type 0} (P : A → Type 0) (r : Result A Fault) → ((a : A) → r ≡ Ok a → P a) → Gives P r
-gives_from P (Ok a) f = f a refl
-gives_from P (Err k) f = tt
-
 module _ (x : ℕ) where
   abbrev SafeAfter : Result Store Fault → Type 0
   SafeAfter r = Gives (Safe x) r
@@ -139,14 +135,14 @@ module _ (x : ℕ) where
   path_safe : (s : Store) (y : ℕ) (fs : List ℕ) (v : Value) → (x ≡ y → ⊥) → Safe x s → SafeAfter (write_path s y fs v)
   path_safe s y [] v differ e = set_safe s y v differ e
   path_safe s y (f ∷ fs) v differ e =
-      gives_from (Safe x) (write_from s (var_of s y) f fs v)
+      gives_by (Safe x) (write_from s (var_of s y) f fs v)
       (λ t got. same_safe s t (write_from_vars s t fs (var_of s y) f v got) e)
 
   data_safe : (s : Store) (q : DataPath) (d : Datum) → Safe x s → SafeAfter (write_data s q d)
   data_safe s (DataVar y) d e = e
   data_safe s (DataField base f) d e =
       onward_gives (λ v. Unit {0}) (Safe x) (read s base) (λ v. store_datum s v f d) (always (read s base))
-      (λ v this. gives_from (Safe x) (store_datum s v f d)
+      (λ v this. gives_by (Safe x) (store_datum s v f d)
       (λ t got. same_safe s t (store_datum_vars s t v f d got) e))
 
   -- Acts
