@@ -1,11 +1,11 @@
 -- Callers, one after another.
 use Rattle.std.proofs.Common.{◌≡◌, ◌⊎◌, inl, inr, ℕ, zero, suc, ◌<◌, ◌+◌, List, [], ◌∷◌, ◌++◌, length, set, replicate}
 use Rattle.std.proofs.Common.{refl, sym, subst, ◌∙◌, arith, length-set}
-use Rattle.std.proofs.lemmas.Bool.{cases_lt}
+use Rattle.std.proofs.lemmas.Bool.{cases_eq, cases_lt}
 use Rattle.std.proofs.lemmas.List.{length-replicate, get_or-set_same, get_or-set_other}
 use Rattle.fore_base.specs.Lists.{IsIn}
 use Rattle.fore_base.proofs.ListLemmas.{in_left, in_right, in_append, in_last, in_push}
-use Rattle.c_calls.proofs.Places.{same_or_not, caller_within}
+use Rattle.c_calls.proofs.Places.{caller_within}
 use Rattle.c_calls.specs.Calls.{called_by, AreCallers}
 use Rattle.c_calls.specs.inner.Turning.{Adds, AreCallersUpTo}
 
@@ -60,8 +60,8 @@ module _ (f h : ℕ) (table : List (List ℕ)) (low : h < length table) where
   pub adds_one : Adds f (h ∷ []) table new
   adds_one = record {
     long = length-set table h own;
-    stay = λ g x i. stay g x i (same_or_not g h);
-    only = λ g x i. only g x i (same_or_not g h);
+    stay = λ g x i. stay g x i (cases_eq g h);
+    only = λ g x i. only g x i (cases_eq g h);
     each = λ g i. elim i [
       | inl e ↦ subst (λ (n : ℕ). IsIn f (called_by new n)) (sym e) (subst (IsIn f) (sym here)
           (in_last f (called_by table h)))

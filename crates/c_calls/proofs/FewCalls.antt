@@ -4,11 +4,12 @@ use Rattle.std.proofs.Common.{not}
 use Rattle.std.proofs.Common.{List, [], ◌∷◌, map, length, eqb, refl, sym, subst, arith}
 use Rattle.std.specs.List.{list_any, AllByRecursion}
 use Rattle.std.specs.List as stds
-use Rattle.std.proofs.lemmas.Bool.{and_parts, and_from, or_cases, or_right, or_left, eqb-true, eq-eqb, cases_lt}
+use Rattle.std.proofs.lemmas.Bool.{and_parts, and_from, or_cases, or_right, or_left, eqb-true, eq-eqb, cases_eq}
+use Rattle.std.proofs.lemmas.Bool.{cases_lt}
 use Rattle.std.proofs.lemmas.Map.Steps.{length-le_from_distinct_below}
 use Rattle.fore_base.specs.Lists.{IsIn, Every, IsDistinct, sum_of}
 use Rattle.fore_base.proofs.ListLemmas.{in_any, any_in, every_in, every_weaker}
-use Rattle.c_calls.proofs.Places.{caller_within, same_or_not}
+use Rattle.c_calls.proofs.Places.{caller_within}
 use Rattle.c_calls.specs.Calls.{called_by, Leads, at_once, through, NoneRecurs, leads_within, none_recurs}
 use Rattle.c_calls.specs.Calls.{none_recurs_below}
 use Rattle.c_calls.specs.Weights.{Weighs, Weigh, weighs, none, more, weight_within, weight_of}
@@ -37,7 +38,7 @@ few_below xs n d b = length-le_from_distinct_below xs n (apart xs d)
 
 is_in_or_not : (x : ℕ) (xs : List ℕ) → IsIn x xs ⊎ (IsIn x xs → ⊥)
 is_in_or_not x [] = inr (λ i. i)
-is_in_or_not x (y ∷ ys) = elim (same_or_not x y) [
+is_in_or_not x (y ∷ ys) = elim (cases_eq x y) [
   | inl e ↦ inl (inl e)
   | inr d ↦ elim (is_in_or_not x ys) [
     | inl i ↦ inl (inr i)

@@ -2,6 +2,6 @@ mod Callers
 mod Capping
 pub mod FewCalls
 mod Leading
-mod Places
+pub mod Places
 mod Rows
 mod Weighed

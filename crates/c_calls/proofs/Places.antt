@@ -1,17 +1,9 @@
 -- Which functions call, and which are called.
-use Rattle.std.proofs.Common.{◌≡◌, ◌⊎◌, inl, inr, ℕ, zero, suc, ◌<◌, List, [], ◌∷◌, length, get_or, arith}
+use Rattle.std.proofs.Common.{◌≡◌, ℕ, zero, suc, ◌<◌, List, [], ◌∷◌, length, get_or, arith}
 use Rattle.std.proofs.Common.{Some, slice_get}
-use Rattle.std.proofs.lemmas.Bool.{cases_order}
 use Rattle.std.proofs.lemmas.Option.{none-some, same_Some}
 use Rattle.fore_base.specs.Lists.{IsIn, Every}
 use Rattle.c_calls.specs.Calls.{called_by}
-
--- two numbers are one or differ
-pub same_or_not : (i j : ℕ) → (i ≡ j) ⊎ (i ≡ j → ⊥)
-same_or_not i j = elim (cases_order i j) [
-  | inl e ↦ inl e
-  | inr o ↦ inr (λ e. elim o [ inl l ↦ omega (arith, l, e) | inr l ↦ omega (arith, l, e) ])
-]
 
 -- what calls is a function of the file
 pub caller_within : (calls : List (List ℕ)) (f g : ℕ) → IsIn g (called_by calls f) → f < length calls

@@ -1,8 +1,9 @@
 -- Changes after which each variable that held a cell still holds it: of several changes one after the other it is
 -- enough that none is of a variable that held a cell before the first.
-use Rattle.std.proofs.Common.{◌≡◌, inl, inr, ℕ, zero, suc, Bool, true, false, ◌||◌, nat_lt, if◌then◌else◌}
+use Rattle.std.proofs.Common.{◌≡◌, inl, inr, ℕ, zero, suc, Bool, true, false, nat_lt, if◌then◌else◌}
 use Rattle.std.proofs.Common.{Option, Some, None, Result, Ok, List, [], ◌∷◌, slice_set, slice_index_or, refl, sym}
 use Rattle.std.proofs.Common.{ap, ◌∙◌, true≢false}
+use Rattle.std.proofs.lemmas.Bool.{or_from, or_parts}
 use Rattle.fore_base.specs.declared.fault.Fault.{Fault}
 use Rattle.fore_base.specs.declared.store.Value.{Value}
 use Rattle.fore_base.specs.declared.store.Value.TheVariants.{Uninit, Cell}
@@ -17,7 +18,7 @@ use Rattle.c_types.specs.Control.{insert, ptr_vars, datum_vars, with_result}
 use Rattle.c_types.specs.Steps.{◌>>=◌, read_op, read_data_op, give, enter, give_back, without, leave}
 use Rattle.c_types.specs.Losses.{is_cell, hold_cell, vars_hold}
 use Rattle.c_types.proofs.Fitting.{Gives, always, onward_gives}
-use Rattle.c_types.proofs.LeakKept.{KeptCell, Keeps, same_cells, or_none}
+use Rattle.c_types.proofs.LeakKept.{KeptCell, Keeps, same_cells}
 
 -- each variable that holds a cell in s holds it in t, and no field of a cell lost one
 pub record HoldsOn (s t : Store) : Type 0 where
@@ -70,7 +71,7 @@ each_holds_at : (us ts : List Value) (xs : List ℕ) → hold_cell us xs ≡ fal
     → (k n : ℕ) → slice_index_or us k Uninit ≡ Cell n → slice_index_or (set_each ts xs Uninit) k Uninit ≡ Cell n
 each_holds_at us ts [] none h = h
 each_holds_at us ts (x ∷ xs) none h =
-    let parts = or_none (is_cell (slice_index_or us x Uninit)) (hold_cell us xs) none in
+    let parts = or_parts (is_cell (slice_index_or us x Uninit)) (hold_cell us xs) none in
     each_holds_at us (slice_set ts x Uninit) xs parts.1 (set_holds_at us ts x Uninit parts.0 h)
 
 pub kill_holds : (s t : Store) (ps ds : List ℕ) → hold_cell s.vars ps ≡ false → HoldsOn s t → HoldsOn s (kill ps ds t)
@@ -78,24 +79,20 @@ kill_holds s t ps ds none h = record { vars = each_holds_at s.vars t.vars ps non
 
 -- Parameters, results and local variables
 
-both_false : (a b : Bool) → a ≡ false → b ≡ false → (a || b) ≡ false
-both_false true b e f = e
-both_false false b e f = f
-
 insert_holds : (us : List Value) (x : ℕ) (xs : List ℕ) → hold_cell us (insert x xs) ≡ false
     → (is_cell (slice_index_or us x Uninit) ≡ false) × (hold_cell us xs ≡ false)
-insert_holds us x [] none = ((or_none (is_cell (slice_index_or us x Uninit)) false none).0, refl)
+insert_holds us x [] none = ((or_parts (is_cell (slice_index_or us x Uninit)) false none).0, refl)
 insert_holds us x (y ∷ ys) none = here (nat_lt x y) none (insert_holds us x ys)
   where
     here : (b : Bool) → hold_cell us (if b then x ∷ y ∷ ys else y ∷ insert x ys) ≡ false
         → (hold_cell us (insert x ys) ≡ false
         → (is_cell (slice_index_or us x Uninit) ≡ false) × (hold_cell us ys ≡ false))
         → (is_cell (slice_index_or us x Uninit) ≡ false) × (hold_cell us (y ∷ ys) ≡ false)
-    here true e later = or_none (is_cell (slice_index_or us x Uninit)) (hold_cell us (y ∷ ys)) e
+    here true e later = or_parts (is_cell (slice_index_or us x Uninit)) (hold_cell us (y ∷ ys)) e
     here false e later =
-        let parts = or_none (is_cell (slice_index_or us y Uninit)) (hold_cell us (insert x ys)) e in
+        let parts = or_parts (is_cell (slice_index_or us y Uninit)) (hold_cell us (insert x ys)) e in
         let rest = later parts.1 in
-        (rest.0, both_false (is_cell (slice_index_or us y Uninit)) (hold_cell us ys) parts.0 rest.1)
+        (rest.0, or_from (is_cell (slice_index_or us y Uninit)) (hold_cell us ys) parts.0 rest.1)
 
 -- the first of some variables holds no cell, if it is a pointer
 abbrev first_free : Store → VarRef → Type 0

@@ -1,6 +1,7 @@
 -- Changes of a store that take no reference to a cell away: where no cell had leaked before, none has after.
-use Rattle.std.proofs.Common.{◌≡◌, inl, inr, ℕ, zero, suc, Bool, true, false, ◌||◌, nat_eq, if◌then◌else◌, Ok, List, []}
+use Rattle.std.proofs.Common.{◌≡◌, inl, inr, ℕ, zero, suc, Bool, true, false, nat_eq, if◌then◌else◌, Ok, List, []}
 use Rattle.std.proofs.Common.{◌∷◌, slice_set, slice_index_or, refl, sym, ap, ◌∙◌, subst, true≢false}
+use Rattle.std.proofs.lemmas.Bool.{or_parts}
 use Rattle.fore_base.specs.declared.store.Value.{Value}
 use Rattle.fore_base.specs.declared.store.Value.TheVariants.{Uninit, Cell}
 use Rattle.fore_base.specs.declared.store.Datum.{Datum}
@@ -96,10 +97,6 @@ set_var_keeps s x v e = record { vars = set_kept s.vars x v e; cells = same_cell
 pub set_datum_keeps : (s : Store) (x : ℕ) (d : Datum) → Keeps s (set_datum s x d)
 set_datum_keeps s x d = record { vars = λ n h. h; cells = same_cells s.cells }
 
-pub or_none : (a b : Bool) → (a || b) ≡ false → (a ≡ false) × (b ≡ false)
-or_none true b e = absurd (true≢false e)
-or_none false b e = (refl, e)
-
 -- what holds no cell holds none after another variable has died
 pub unset_at : (vs : List Value) (x y : ℕ) → is_cell (slice_index_or vs y Uninit) ≡ false
     → is_cell (slice_index_or (slice_set vs x Uninit) y Uninit) ≡ false
@@ -112,7 +109,7 @@ unset_each : (vs : List Value) (x : ℕ) (ys : List ℕ) → hold_cell vs ys ≡
 unset_each vs x [] e = refl
 unset_each vs x (y ∷ ys) e =
     let parts : (is_cell (slice_index_or vs y Uninit) ≡ false) × (hold_cell vs ys ≡ false) =
-    or_none (is_cell (slice_index_or vs y Uninit)) (hold_cell vs ys) e in
+    or_parts (is_cell (slice_index_or vs y Uninit)) (hold_cell vs ys) e in
     rw (unset_at vs x y parts.0) (unset_each vs x ys parts.1)
 
 each_kept : (vs : List Value) (xs : List ℕ) → hold_cell vs xs ≡ false → (n : ℕ) → IsIn (Cell n) vs
@@ -120,7 +117,7 @@ each_kept : (vs : List Value) (xs : List ℕ) → hold_cell vs xs ≡ false → 
 each_kept vs [] e n h = h
 each_kept vs (x ∷ xs) e n h =
     let parts : (is_cell (slice_index_or vs x Uninit) ≡ false) × (hold_cell vs xs ≡ false) =
-    or_none (is_cell (slice_index_or vs x Uninit)) (hold_cell vs xs) e in
+    or_parts (is_cell (slice_index_or vs x Uninit)) (hold_cell vs xs) e in
     each_kept (slice_set vs x Uninit) xs (unset_each vs x xs parts.1) n (set_kept vs x Uninit parts.0 n h)
 
 pub kill_keeps : (s : Store) (ps ds : List ℕ) → hold_cell s.vars ps ≡ false → Keeps s (kill ps ds s)

@@ -1,6 +1,7 @@
 -- A step that takes no reference to a cell away: its leak test has the answer that it had before.
 use Rattle.std.proofs.Common.{◌≡◌, ℕ, Bool, true, false, Option, Some, None, Result, Ok, Err, List, []}
 use Rattle.std.proofs.Common.{◌∷◌, ◌||◌, length, slice_index_or, refl, sym, ap, ◌∙◌, subst, true≢false}
+use Rattle.std.proofs.lemmas.Bool.{or_parts}
 use Rattle.fore_base.specs.declared.fault.Fault.{Fault}
 use Rattle.fore_base.specs.declared.fault.Fault.TheVariants.{Leak}
 use Rattle.fore_base.specs.declared.shape.Shape.{Shape}
@@ -47,7 +48,7 @@ use Rattle.c_types.specs.Steps.{test_turn, turn_of}
 use Rattle.c_types.specs.Steps.{give, enter, give_back, without, leave, hand, hand_over, exit}
 use Rattle.c_types.specs.Losses.{is_cell, got_cell, assign_loses, act_loses, dest_loses, to_loses, vars_hold, loses}
 use Rattle.c_types.proofs.LeakKept.{Keeps, kept_sound, keeps_all, set_datum_keeps, kill_keeps, store_datum_keeps}
-use Rattle.c_types.proofs.LeakKept.{write_path_keeps, write_from_keeps, write_from_vars, store_datum_vars, or_none}
+use Rattle.c_types.proofs.LeakKept.{write_path_keeps, write_from_keeps, write_from_vars, store_datum_vars}
 use Rattle.c_types.proofs.HeldOn.{HoldsOn, holds_same, holds_keeps, set_holds, enter_holds, leave_holds, without_holds}
 use Rattle.c_types.proofs.Fitting.{Gives}
 
@@ -298,7 +299,7 @@ hand_over_holds s (Some v) (Some d) none = hand_holds s v d none
 exit_holds : (s : Store) (v : Option VarRef) (vs : List VarRef) (d : Option Dest)
     → (to_loses s d || vars_hold s (with_result v vs)) ≡ false → Gives (HoldsOn s) (exit s v vs d)
 exit_holds s v vs d none =
-    let parts = or_none (to_loses s d) (vars_hold s (with_result v vs)) none in
+    let parts = or_parts (to_loses s d) (vars_hold s (with_result v vs)) none in
     without_holds s (with_result v vs) (hand_over s v d) parts.1 (hand_over_holds s v d parts.0)
 
 -- Turns
