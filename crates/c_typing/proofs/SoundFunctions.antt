@@ -1,11 +1,11 @@
 -- Where nothing is broken, each function of a file is one of the program's, its body is typed and names variables of
 -- its own, and what it calls does not lead back to it.
-use Rattle.std.proofs.Common.{◌≡◌, ◌<◌, ℕ, zero, suc, Bool, true, false, cond, ◌&&◌, nat_eq, List, [], ◌∷◌, ◌++◌}
+use Rattle.std.proofs.Common.{◌≡◌, ◌<◌, ℕ, suc, Bool, true, false, cond, ◌&&◌, nat_eq, List, [], ◌∷◌, ◌++◌}
 use Rattle.std.proofs.Common.{length}
-use Rattle.std.proofs.Common.{map, codes, Option, Some, None, slice_get, inl, inr, refl, sym, ap, ◌∙◌, subst, arith}
+use Rattle.std.proofs.Common.{map, codes, Option, Some, None, inl, inr, refl, sym, ap, ◌∙◌, subst, arith}
 use Rattle.std.proofs.lemmas.Bool.{and_from, or_parts}
 use Rattle.std.proofs.lemmas.List.{append_assoc, length-append}
-use Rattle.std.proofs.lemmas.Option.{none-some, same_Some}
+use Rattle.std.proofs.lemmas.Option.{none-some}
 use Rattle.std.specs.Cmp.Lexicographic.{bytes_decides}
 use Rattle.std.specs.List.{flat_map}
 use Rattle.fore_base.proofs.ListLemmas.{every_append, every_tests, every_weaker, in_any, in_every, in_left, in_right}
@@ -16,6 +16,7 @@ use Rattle.c_ast.specs.declared.items.Item.TheVariants as item
 use Rattle.c_ast.specs.declared.items.Param.{Param}
 use Rattle.c_ast.specs.declared.statements.Block.{Block}
 use Rattle.c_calls.specs.Calls.{called_by, leads_within}
+use Rattle.c_calls.proofs.Places.{called_got}
 use Rattle.c_types.specs.Bodies.{all_among, body_calls, body_declares, body_names, is_among, keeps_to_own, own_vars}
 use Rattle.c_types.specs.Bodies.{same_var, stmt_calls, stmt_declares, stmt_names}
 use Rattle.c_types.specs.Program.{bodies_typed, body_typed, vars_typed}
@@ -82,12 +83,6 @@ called_is g x f is = either (has x given) is
     either : (b : Bool) → cond b None (function_number g x) ≡ Some f → function_number g x ≡ Some f
     either true h = absurd (none-some f h)
     either false h = h
-
--- what a function calls, read at its place
-called_got : (calls : List (List ℕ)) (f : ℕ) (x : List ℕ) → slice_get calls f ≡ Some x → called_by calls f ≡ x
-called_got [] f x e = absurd (none-some x e)
-called_got (y ∷ calls) zero x e = same_Some y x e
-called_got (y ∷ calls) (suc f) x e = called_got calls f x e
 
 in_numbers : (names xs : List Text) (x : Text) (f : ℕ) → IsIn x xs → number_of x names ≡ Some f
     → IsIn f (numbers_among names xs)
