@@ -3,6 +3,7 @@ use Rattle.std.proofs.Common.{◌≡◌, inl, inr, ℕ, zero, suc, ◌+◌, ◌�
 use Rattle.std.proofs.Common.{◌++◌}
 use Rattle.std.proofs.Common.{map, flat_map, length, length-append, Option, Some, None, refl, sym, ap, subst, ◌∙◌}
 use Rattle.std.proofs.Common.{arith}
+use Rattle.std.proofs.lemmas.List.{length-map}
 use Rattle.std.proofs.lemmas.Option.{none-some, same_Some}
 use Rattle.fore_base.specs.Lists.{IsIn, IsDistinct, Every}
 use Rattle.fore_base.proofs.ListLemmas.{every_append, every_in, in_append, in_left, in_map, in_mapped}
@@ -12,10 +13,6 @@ use Rattle.c_cfg.specs.Graphs.{ControlGraph}
 use Rattle.c_cfg.specs.GraphRuns.{out_of}
 use Rattle.c_prefixes.specs.Prefixes.{IsPathFrom, IsPrefix, AtMost, AtLeast, plus, sum_there, empty_path, paths_from}
 use Rattle.c_prefixes.proofs.Distinct.{no_more, distinct_both, distinct_mapped}
-
-length_map : {X Y : Type 0} (f : X → Y) (xs : List X) → length (map f xs) ≡ length xs
-length_map f [] = refl
-length_map f (x ∷ xs) = ap (λ n. suc n) (length_map f xs)
 
 module _ (edges : List Edge) where
   -- the paths that begin with this edge and go on as `after` says
@@ -63,7 +60,7 @@ module _ (edges : List Edge) where
           let r = rec c y in
           let s : a + c ≡ b = same_Some (a + c) b (sym (ap (plus a) y) ∙ h) in
           let l = length-append (begun_by (all_from n) e) (begun (all_from n) es) in
-          let m = length_map (λ (p : List Edge). e ∷ p) (all_from n e.to) in
+          let m = length-map (all_from n e.to) (λ (p : List Edge). e ∷ p) in
           let u = k.0 in
           let v = r.0 in (
             omega (arith, s, l, m, u, v),

@@ -1,20 +1,20 @@
 -- Items without a loop: those of a program whose graph has no loop head.
-use Rattle.std.proofs.Common.{◌≡◌, inl, inr, ℕ, Bool, true, false, true≢false, not, List, [], ◌∷◌, ◌++◌, map, refl}
+use Rattle.std.proofs.Common.{◌≡◌, inl, inr, Bool, true, false, true≢false, not, List, [], ◌∷◌, ◌++◌, map, refl}
 use Rattle.std.proofs.Common.{sym}
-use Rattle.std.proofs.Common.{ap, subst, ◌∙◌, eqb}
+use Rattle.std.proofs.Common.{subst, ◌∙◌, eqb}
 use Rattle.std.specs.List.{list_all}
 use Rattle.std.proofs.lemmas.List.Sorted.{list_any-IsPermutation}
 use Rattle.fore_base.specs.Lists.{IsIn}
 use Rattle.fore_base.proofs.ListLemmas.{in_append, in_left, in_right, in_map, in_number, number_in}
 use Rattle.c_types.specs.declared.mode.MallocMode.{MallocMode}
-use Rattle.c_types.specs.Control.{Items, Done, Do, Close, If, Loop, Again, DoLoop, DoAgain, Enter, Leave, Exit, Test}
-use Rattle.c_types.specs.Control.{Ask, Not, Both, Either}
-use Rattle.c_types.specs.Control.{◌then◌, ask, round, do_round, after_again, from_again}
+use Rattle.c_types.specs.Control.{Items, Done, Do, Close, If, Loop, Again, DoLoop, DoAgain, Enter, Leave, Exit}
+use Rattle.c_types.specs.Control.{◌then◌, round, do_round, after_again, from_again}
 use Rattle.c_types.specs.Program.{Program}
 use Rattle.c_types.specs.Steps.{below}
 use Rattle.c_cfg.specs.Graphs.{ControlGraph}
 use Rattle.c_cfg.specs.Lowering.{LowerOf, numbers, is_one_of}
 use Rattle.c_cfg.specs.Places.{test_places, places, heads}
+use Rattle.c_cfg.proofs.FreeOfLoops.{asks_place, in_numbers}
 
 -- no item is a loop
 abbrev pub IsFree : Items → Type 0
@@ -78,39 +78,20 @@ then_free (Leave v vs a m is) d h k = then_free is d h k
 then_free (Exit v vs e m is) d h k = then_free is d h k
 
 -- where there is no loop nothing is left after `break`, nor after `continue`
-pub none_after : (is : Items) → IsFree is → after_again is ≡ Done
-none_after Done h = refl
-none_after (Do a m is) h = none_after is h
-none_after (Close ps ds m is) h = none_after is h
-none_after (If c x y is) h = none_after is h.2
-none_after (Loop c n b is) h = absurd h
-none_after (Again c n b is) h = absurd h
-none_after (DoLoop c b is) h = absurd h
-none_after (DoAgain c b is) h = absurd h
-none_after (Enter vs ws m is) h = none_after is h
-none_after (Leave v vs a m is) h = none_after is h
-none_after (Exit v vs d m is) h = none_after is h
-
-pub none_from : (is : Items) → IsFree is → from_again is ≡ Done
-none_from Done h = refl
-none_from (Do a m is) h = none_from is h
-none_from (Close ps ds m is) h = none_from is h
-none_from (If c x y is) h = none_from is h.2
-none_from (Loop c n b is) h = absurd h
-none_from (Again c n b is) h = absurd h
-none_from (DoLoop c b is) h = absurd h
-none_from (DoAgain c b is) h = absurd h
-none_from (Enter vs ws m is) h = none_from is h
-none_from (Leave v vs a m is) h = none_from is h
-none_from (Exit v vs d m is) h = none_from is h
+pub nothing_left : (is : Items) → IsFree is → (after_again is ≡ Done) × (from_again is ≡ Done)
+nothing_left Done h = (refl, refl)
+nothing_left (Do a m is) h = nothing_left is h
+nothing_left (Close ps ds m is) h = nothing_left is h
+nothing_left (If c x y is) h = nothing_left is h.2
+nothing_left (Loop c n b is) h = absurd h
+nothing_left (Again c n b is) h = absurd h
+nothing_left (DoLoop c b is) h = absurd h
+nothing_left (DoAgain c b is) h = absurd h
+nothing_left (Enter vs ws m is) h = nothing_left is h
+nothing_left (Leave v vs a m is) h = nothing_left is h
+nothing_left (Exit v vs d m is) h = nothing_left is h
 
 -- Loop heads are places.
-
-ask_place : (c : Test) (x y r : Items) → IsIn (ask c x y r) (test_places c x y r)
-ask_place (Ask a m) x y r = inl refl
-ask_place (Not c) x y r = ask_place c y x r
-ask_place (Both c d) x y r = in_left _ (test_places c (If d x y Done) y r) _ (ask_place c (If d x y Done) y r)
-ask_place (Either c d) x y r = in_left _ (test_places c x (If d x y Done) r) _ (ask_place c x (If d x y Done) r)
 
 two_parts : (h : Items) (hs is cs ds : List Items) → (IsIn h hs → IsIn h cs) → (IsIn h is → IsIn h ds)
     → IsIn h (hs ++ is) → IsIn h (cs ++ ds)
@@ -129,7 +110,7 @@ head_place h (If c x y is) r i = in_right h (test_places c x y (is then r)) _
 head_place h (Loop c n b is) r (inl e) =
     in_left h (test_places c (round c n b) Done (is then r)) _
     (subst (λ (z : Items). IsIn z (test_places c (round c n b) Done (is then r))) (sym e)
-    (ask_place c (round c n b) Done (is then r)))
+    (asks_place c (round c n b) Done (is then r)))
 head_place h (Loop c n b is) r (inr i) = in_right h (test_places c (round c n b) Done (is then r)) _
     (two_parts h (heads b (Again c n b (is then r))) _ (places b (Again c n b (is then r))) _
     (head_place h b (Again c n b (is then r)))
@@ -138,7 +119,7 @@ head_place h (Loop c n b is) r (inr i) = in_right h (test_places c (round c n b)
 head_place h (Again c n b is) r (inl e) = in_right h (places n (Loop c n b (is then r))) _
     (in_left h (test_places c (round c n b) Done (is then r)) _
     (subst (λ (z : Items). IsIn z (test_places c (round c n b) Done (is then r))) (sym e)
-    (ask_place c (round c n b) Done (is then r))))
+    (asks_place c (round c n b) Done (is then r))))
 head_place h (Again c n b is) r (inr i) =
     two_parts h (heads n (Loop c n b (is then r))) _ (places n (Loop c n b (is then r))) _
     (head_place h n (Loop c n b (is then r)))
@@ -148,7 +129,7 @@ head_place h (Again c n b is) r (inr i) =
 head_place h (DoLoop c b is) r (inl e) = in_right h (places b (DoAgain c b (is then r))) _
     (in_left h (test_places c (do_round c b) Done (is then r)) _
     (subst (λ (z : Items). IsIn z (test_places c (do_round c b) Done (is then r))) (sym e)
-    (ask_place c (do_round c b) Done (is then r))))
+    (asks_place c (do_round c b) Done (is then r))))
 head_place h (DoLoop c b is) r (inr i) =
     two_parts h (heads b (DoAgain c b (is then r))) _ (places b (DoAgain c b (is then r))) _
     (head_place h b (DoAgain c b (is then r)))
@@ -156,7 +137,7 @@ head_place h (DoLoop c b is) r (inr i) =
 head_place h (DoAgain c b is) r (inl e) =
     in_left h (test_places c (do_round c b) Done (is then r)) _
     (subst (λ (z : Items). IsIn z (test_places c (do_round c b) Done (is then r))) (sym e)
-    (ask_place c (do_round c b) Done (is then r)))
+    (asks_place c (do_round c b) Done (is then r)))
 head_place h (DoAgain c b is) r (inr i) = in_right h (test_places c (do_round c b) Done (is then r)) _
     (two_parts h (heads b (DoAgain c b (is then r))) _ (places b (DoAgain c b (is then r))) _
     (head_place h b (DoAgain c b (is then r))) (head_place h is r) i)
@@ -165,13 +146,6 @@ head_place h (Leave v vs a m is) r i = inr (head_place h is r i)
 head_place h (Exit v vs d m is) r i = inr (head_place h is r i)
 
 -- Where no entry is a loop head there is none.
-
-place_numbered : (at : Items → ℕ) (mids : Items → List ℕ) (h : Items) (ps : List Items) → IsIn h ps
-    → IsIn (at h) (numbers at mids ps)
-place_numbered at mids h [] i = absurd i
-place_numbered at mids h (c ∷ cs) (inl e) = inl (ap at e)
-place_numbered at mids h (c ∷ cs) (inr i) =
-    inr (in_right (at h) (mids c) (numbers at mids cs) (place_numbered at mids h cs i))
 
 one_marked : (bs : List Bool) → IsIn true bs → list_all not bs ≡ true → ⊥
 one_marked [] i e = i
@@ -189,7 +163,7 @@ free_items p mode g low none = free_of low.items Done (here (heads low.items Don
         let there : IsIn h (heads low.items Done) = subst (λ (z : List Items). IsIn h z) (sym e) (inl refl) in
         let ks = map low.at (heads low.items Done) in
         let placed = in_number (low.at h) (numbers low.at low.mids (places low.items Done))
-        (place_numbered low.at low.mids h (places low.items Done) (head_place h low.items Done there)) in
+        (in_numbers low.at low.mids h (places low.items Done) (head_place h low.items Done there)) in
         let located : IsIn (low.at h) (below g.locations) =
         number_in (low.at h) (below g.locations)
         (sym (list_any-IsPermutation (λ m. eqb m (low.at h)) _ _ low.all_numbers) ∙ placed) in

@@ -81,13 +81,6 @@ module _ (nv nd : ℕ) where
     -- what stands behind an act decides which variables it kills, and not over how many edges
     pub act_same : (a : Act) (is : Items) (n : ℕ) → way_count (links_in mode (act_row nv nd a Done)) n
         ≡ way_count (links_in mode (act_row nv nd a is)) n
-    act_same (SetPtr to from) is n = refl
-    act_same (SetData to from) is n = refl
-    act_same (Free p) is n = refl
-    act_same Error is n = refl
-    act_same Halt is n = refl
-    act_same (Return operand) is n = refl
-    act_same (LeaveAct f value) is n = refl
     act_same Break is n = one_kill mode
       where
         one_kill : (m : MallocMode) → way_count (links_in m (act_row nv nd Break Done)) n
@@ -100,6 +93,7 @@ module _ (nv nd : ℕ) where
             ≡ way_count (links_in m (act_row nv nd Continue is)) n
         one_kill Always = refl
         one_kill MayFail = refl
+    act_same _ is n = refl
 
     -- of items without a loop, and of each Exit among them that ends none of their own calls; n and e are those of what
     -- stands behind the items
@@ -136,7 +130,6 @@ module _ (nv nd : ℕ) where
 
     pub count_remarked : (f : ℕ → ℕ) (is : Items) (n o : ℕ) (e g : ℕ → ℕ) → AreSame (n, e) (o, g)
         → AreSame (counts (remark f is) n e) (counts is o g)
-    count_remarked f Done n o e g s = s
     count_remarked f (Do a m is) n o e g s =
         let r = count_remarked f is n o e g s in
         (ap (λ (k : ℕ). way_count (links_in mode (act_row nv nd a Done)) (act_after a k)) r.0, r.1)
@@ -153,10 +146,6 @@ module _ (nv nd : ℕ) where
               ∙ ap (λ (k : ℕ). test_count c (counts x b.0 b.1).0 k) w.0),
           r.1,
         )
-    count_remarked f (Loop c k b is) n o e g s = s
-    count_remarked f (Again c k b is) n o e g s = s
-    count_remarked f (DoLoop c b is) n o e g s = s
-    count_remarked f (DoAgain c b is) n o e g s = s
     count_remarked f (Enter vs ws m is) n o e g s =
         let r = count_remarked f is n o e g s in
         (ap (λ (k : ℕ). way_count (enter_row nv nd vs ws) k) r.0, λ k. r.1 (suc k))
@@ -167,3 +156,4 @@ module _ (nv nd : ℕ) where
         let r = count_remarked f is n o e g s in
         let own = ap (λ (k : ℕ). way_count (exit_row nv nd v vs d) k) r.0 in
         (own, same_exits _ _ (counts (remark f is) n e).1 (counts is o g).1 own r.1)
+    count_remarked f _ n o e g s = s

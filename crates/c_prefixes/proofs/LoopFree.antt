@@ -6,14 +6,14 @@ use Rattle.fore_base.specs.Lists.{Every}
 use Rattle.fore_base.proofs.ListLemmas.{every_parts}
 use Rattle.c_types.specs.declared.mode.MallocMode.{MallocMode}
 use Rattle.c_types.specs.declared.program.Act.{Act}
-use Rattle.c_types.specs.declared.program.Act.TheVariants.{SetPtr, SetData, Free, Error, Halt, Return, Break}
-use Rattle.c_types.specs.declared.program.Act.TheVariants.{Continue, Leave as LeaveAct}
+use Rattle.c_types.specs.declared.program.Act.TheVariants.{SetPtr, SetData, Free, Break}
+use Rattle.c_types.specs.declared.program.Act.TheVariants.{Continue}
 use Rattle.c_types.specs.declared.program.VarRef.{VarRef}
 use Rattle.c_types.specs.declared.program.Dest.{Dest}
 use Rattle.c_types.specs.declared.program.Atom.{Atom}
 use Rattle.c_types.specs.declared.program.Atom.TheVariants.{Choice as ChoiceAtom, Known as KnownAtom, Ptr as PtrAtom}
 use Rattle.c_types.specs.declared.program.Atom.TheVariants.{Data as DataAtom}
-use Rattle.c_types.specs.Control.{Items, Done, Do, Close, If, Loop, Again, DoLoop, DoAgain, Enter, Leave, Exit, Test}
+use Rattle.c_types.specs.Control.{Items, Done, Do, Close, If, Enter, Leave, Exit, Test}
 use Rattle.c_types.specs.Control.{Ask, Not, Both, Either}
 use Rattle.c_types.specs.Control.{◌then◌, ask, opened, open_before, exit_after, from_exit, start_of}
 use Rattle.c_types.specs.Program.{Program}
@@ -30,24 +30,12 @@ use Rattle.c_cfg.specs.Lowering.{LowerOf, IsWay, IsTestRow, IsAtomRow, IsRow, ed
 use Rattle.c_cfg.specs.Places.{test_places, places}
 use Rattle.c_cfg.proofs.FreeOfLoops.{free_graph}
 use Rattle.c_types.proofs.Standing.{open_then}
+use Rattle.c_types.proofs.Turns.{then_done}
 use Rattle.c_prefixes.specs.Prefixes.{paths_from}
-use Rattle.c_prefixes.proofs.FreeItems.{IsFree, then_free, none_after, none_from, free_items}
+use Rattle.c_prefixes.proofs.FreeItems.{IsFree, then_free, nothing_left, free_items}
 use Rattle.c_prefixes.proofs.ItemCounts.{act_after, act_same, atom_count, count_remarked, counts, exits_from, row_count}
 use Rattle.c_prefixes.proofs.ItemCounts.{test_count, way_count}
 use Rattle.c_prefixes.proofs.Sums.{IsNumber, none_here, one_here, one_only, two_here}
-
-then_done : (r : Items) → r then Done ≡ r
-then_done Done = refl
-then_done (Do a m is) = ap (Do a m) (then_done is)
-then_done (Close ps ds m is) = ap (Close ps ds m) (then_done is)
-then_done (If c x y is) = ap (If c x y) (then_done is)
-then_done (Loop c n b is) = ap (Loop c n b) (then_done is)
-then_done (Again c n b is) = ap (Again c n b) (then_done is)
-then_done (DoLoop c b is) = ap (DoLoop c b) (then_done is)
-then_done (DoAgain c b is) = ap (DoAgain c b) (then_done is)
-then_done (Enter vs ws m is) = ap (Enter vs ws m) (then_done is)
-then_done (Leave v vs a m is) = ap (Leave v vs a m) (then_done is)
-then_done (Exit v vs d m is) = ap (Exit v vs d m) (then_done is)
 
 module _ (nv nd : ℕ) (edges : List Edge) where
   -- along a way
@@ -131,14 +119,11 @@ module _ (nv nd : ℕ) (edges : List Edge) where
     act_number (SetPtr to from) is n f h = h
     act_number (SetData to from) is n f h = h
     act_number (Free p) is n f h = h
-    act_number Error is n f h = exit_number
-    act_number Halt is n f h = exit_number
-    act_number (Return operand) is n f h = exit_number
-    act_number (LeaveAct g value) is n f h = exit_number
     act_number Break is n f h = subst (λ (z : Items). IsNumber edges (at (opened z)) 1)
-        (sym (none_after is f)) exit_number
+        (sym (nothing_left is f).0) exit_number
     act_number Continue is n f h =
-        subst (λ (z : Items). IsNumber edges (at (opened z)) 1) (sym (none_from is f)) exit_number
+        subst (λ (z : Items). IsNumber edges (at (opened z)) 1) (sym (nothing_left is f).1) exit_number
+    act_number _ is n f h = exit_number
 
     -- each Exit behind some items that ends none of their own calls
     abbrev ExitsNumbered : Items → (ℕ → ℕ) → Type 0
@@ -192,10 +177,6 @@ module _ (nv nd : ℕ) (edges : List Edge) where
               (whole z (is then r) b (items_number z (is then r) d.0 d.1 f.1 t k.0 w q.1).0),
           q.1,
         )
-    items_number (Loop c j b is) r n e f g rows h x = absurd f
-    items_number (Again c j b is) r n e f g rows h x = absurd f
-    items_number (DoLoop c b is) r n e f g rows h x = absurd f
-    items_number (DoAgain c b is) r n e f g rows h x = absurd f
     items_number (Enter vs ws m is) r n e f g rows h x =
         let c = counts nv nd mode is n e in
         let q = items_number is r n e f g rows.1 h x in (
@@ -220,6 +201,7 @@ module _ (nv nd : ℕ) (edges : List Edge) where
         let first = way_count (exit_row nv nd v vs d) c.0 in
         let opens = subst (λ (z : Items). IsNumber edges (at z) first) (sym same) own in
         (own, exits_number v vs d m (is then r) first c.1 opens q.1)
+    items_number _ r n e f g rows h x = absurd f
 
 -- the number of prefixes of each graph of a program without loops
 abbrev program_count : Program → MallocMode → ℕ
