@@ -4,15 +4,21 @@ use Rattle.std.proofs.Common.{Option, Some, None, List, [], ◌∷◌, ◌++◌,
 use Rattle.std.proofs.Common.{ap, ◌∙◌, subst, true≢false, arith}
 use Rattle.std.proofs.lemmas.Bool.{eqb-true, cases_lt}
 use Rattle.std.proofs.lemmas.Bool.Decides.{nat_tests}
+use Rattle.std.proofs.lemmas.List.{drop-append-le, get_or_append_left, get_or_push, length-replicate, length-set}
+use Rattle.std.proofs.lemmas.List.{length_push}
 use Rattle.fore_base.specs.declared.store.Value.{Value}
 use Rattle.fore_base.specs.declared.store.Value.TheVariants.{Cell}
 use Rattle.fore_base.specs.declared.store.CellRec.{CellRec}
 use Rattle.fore_base.specs.declared.store.Store.{Store}
 use Rattle.fore_base.specs.Lists.{IsIn}
+use Rattle.fore_base.specs.Marks.{marked_count}
 use Rattle.fore_base.specs.Heap.{Reach, by_var, by_field, Leaked, leaks}
 use Rattle.fore_base.proofs.Leaks.{leaks_leaked, sound_reached}
+use Rattle.fore_base.proofs.ListLemmas.{in_left, in_last, past_end}
+use Rattle.fore_base.proofs.MarkLemmas.{marked_still, marked_new, marked_set, unmarked_none, marked_default}
+use Rattle.fore_base.proofs.MarkLemmas.{unmarked_within, count_within, count_none, count_set}
 use Rattle.c_heap.specs.Rising.{CellsRiseFrom, position_in}
-use Rattle.c_heap.specs.inner.Marking.{Marked, count_true, noted_at, noted, noted_all}
+use Rattle.c_heap.specs.inner.Marking.{Marked, noted_at, noted, noted_all}
 use Rattle.c_heap.proofs.CellLemmas.{FoundAt, first, further, Position, found, missing, positioned}
 use Rattle.c_heap.proofs.Searching.{no_cell, position_at}
 
@@ -30,86 +36,16 @@ AllNoted cs vs m = (n i : ℕ) → IsIn (Cell n) vs → position_in cs n ≡ Som
 pub record Walked (s : Store) (vs : List Value) (k : ℕ) (m : Marked) : Type 0 where
   pub long : length m.reached ≡ length s.cells
   pub within : (j : ℕ) → j < length m.order → get_or m.order j 0 < length s.cells
-  pub counted : length m.order ≡ count_true m.reached
+  pub counted : length m.order ≡ marked_count m.reached
   pub ordered : (j : ℕ) → j < length m.order → is_marked m (get_or m.order j 0) ≡ true
   pub sound : (i : ℕ) → is_marked m i ≡ true → Reach s (cell_at s.cells i).number
   pub values : AllNoted s.cells vs m
   pub done : (i : ℕ) → is_marked m i ≡ true → IsIn i (drop k m.order) ⊎ AllNoted s.cells (cell_at s.cells i).fields m
   pub begun : k ≤ length m.order
 
--- Lists
-
-in_append_left : {X : Type 0} (x : X) (xs ys : List X) → IsIn x xs → IsIn x (xs ++ ys)
-in_append_left x [] ys h = absurd h
-in_append_left x (z ∷ xs) ys (inl e) = inl e
-in_append_left x (z ∷ xs) ys (inr h) = inr (in_append_left x xs ys h)
-
-in_append_last : {X : Type 0} (x : X) (xs : List X) → IsIn x (xs ++ x ∷ [])
-in_append_last x [] = inl refl
-in_append_last x (z ∷ xs) = inr (in_append_last x xs)
-
-drop_append : {X : Type 0} (k : ℕ) (xs ys : List X) → k ≤ length xs → drop k (xs ++ ys) ≡ drop k xs ++ ys
-drop_append zero xs ys less = refl
-drop_append (suc k) [] ys less = absurd (omega (arith, less))
-drop_append (suc k) (x ∷ xs) ys less = drop_append k xs ys (omega (arith, less))
-
-get_append_left : (xs ys : List ℕ) (j d : ℕ) → j < length xs → get_or (xs ++ ys) j d ≡ get_or xs j d
-get_append_left [] ys j d less = absurd (omega (arith, less))
-get_append_left (x ∷ xs) ys zero d less = refl
-get_append_left (x ∷ xs) ys (suc j) d less = get_append_left xs ys j d (omega (arith, less))
-
-get_append_last : (xs : List ℕ) (y d : ℕ) → get_or (xs ++ y ∷ []) (length xs) d ≡ y
-get_append_last [] y d = refl
-get_append_last (x ∷ xs) y d = get_append_last xs y d
-
-pub length_append_last : {X : Type 0} (xs : List X) (y : X) → length (xs ++ y ∷ []) ≡ suc (length xs)
-length_append_last [] y = refl
-length_append_last (x ∷ xs) y = ap suc (length_append_last xs y)
-
-set_same : (bs : List Bool) (i : ℕ) → i < length bs → get_or (set bs i true) i false ≡ true
-set_same [] i less = absurd (omega (arith, less))
-set_same (b ∷ bs) zero less = refl
-set_same (b ∷ bs) (suc i) less = set_same bs i (omega (arith, less))
-
-set_grows : (bs : List Bool) (i j : ℕ) → get_or bs j false ≡ true → get_or (set bs i true) j false ≡ true
-set_grows (b ∷ bs) zero zero e = refl
-set_grows (b ∷ bs) (suc i) (suc j) e = set_grows bs i j e
-set_grows _ _ _ e = e
-
-set_new : (bs : List Bool) (i j : ℕ) → get_or (set bs i true) j false ≡ true → (j ≡ i) ⊎ (get_or bs j false ≡ true)
-set_new (b ∷ bs) zero zero e = inl refl
-set_new (b ∷ bs) (suc i) (suc j) e = elim (set_new bs i j e) [ inl same ↦ inl (ap suc same) | inr old ↦ inr old ]
-set_new _ _ _ e = inr e
-
-pub set_length : (bs : List Bool) (i : ℕ) → length (set bs i true) ≡ length bs
-set_length [] i = refl
-set_length (b ∷ bs) zero = refl
-set_length (b ∷ bs) (suc i) = ap suc (set_length bs i)
-
-pub set_count : (bs : List Bool) (i : ℕ) → get_or bs i true ≡ false → count_true (set bs i true) ≡ suc (count_true bs)
-set_count [] i e = absurd (true≢false e)
-set_count (true ∷ bs) zero e = absurd (true≢false e)
-set_count (false ∷ bs) zero e = refl
-set_count (true ∷ bs) (suc i) e = ap suc (set_count bs i e)
-set_count (false ∷ bs) (suc i) e = set_count bs i e
-
-pub unmarked_within : (bs : List Bool) (i : ℕ) → get_or bs i true ≡ false → i < length bs
-unmarked_within [] i e = absurd (true≢false e)
-unmarked_within (b ∷ bs) zero e = omega arith
-unmarked_within (b ∷ bs) (suc i) e = omega (arith, unmarked_within bs i e)
-
-marked_default : (bs : List Bool) (i : ℕ) → i < length bs → get_or bs i true ≡ true → get_or bs i false ≡ true
-marked_default [] i less e = absurd (omega (arith, less))
-marked_default (b ∷ bs) zero less e = e
-marked_default (b ∷ bs) (suc i) less e = marked_default bs i (omega (arith, less)) e
-
-pub count_within : (bs : List Bool) → count_true bs ≤ length bs
-count_within [] = omega arith
-count_within (true ∷ bs) = omega (arith, count_within bs)
-count_within (false ∷ bs) = omega (arith, count_within bs)
-
 -- where fewer are true than there are, one is not
-pub fewer_true : (bs : List Bool) → count_true bs < length bs → (i : ℕ) × (i < length bs) × (get_or bs i false ≡ false)
+pub fewer_true : (bs : List Bool) → marked_count bs < length bs → (i : ℕ) × (i < length bs)
+    × (get_or bs i false ≡ false)
 fewer_true [] less = absurd (omega (arith, less))
 fewer_true (false ∷ bs) less = (zero, omega arith, refl)
 fewer_true (true ∷ bs) less =
@@ -117,7 +53,7 @@ fewer_true (true ∷ bs) less =
     (suc rest.0, omega (arith, rest.1), rest.2)
 
 -- where as many are true as there are, each is
-pub all_true : (bs : List Bool) → length bs ≤ count_true bs → (i : ℕ) → i < length bs → get_or bs i false ≡ true
+pub all_true : (bs : List Bool) → length bs ≤ marked_count bs → (i : ℕ) → i < length bs → get_or bs i false ≡ true
 all_true [] all i less = absurd (omega (arith, less))
 all_true (true ∷ bs) all zero less = refl
 all_true (true ∷ bs) all (suc i) less = all_true bs (omega (arith, all)) i (omega (arith, less))
@@ -130,38 +66,40 @@ module _ (s : Store) (vs : List Value) (k i : ℕ) (m : Marked) where
   marked_one = record { reached = set m.reached i true; order = m.order ++ i ∷ [] }
 
   still : (us : List Value) → AllNoted s.cells us m → AllNoted s.cells us marked_one
-  still us h n j here is = set_grows m.reached i j (h n j here is)
+  still us h n j here is = marked_still m.reached i j (h n j here is)
 
   new_within : Walked s vs k m → get_or m.reached i true ≡ false → (j : ℕ) → j < length (m.order ++ i ∷ [])
       → get_or (m.order ++ i ∷ []) j 0 < length s.cells
   new_within w fresh j less = elim (cases_lt j (length m.order)) [
-    | inl old ↦ rw (get_append_left m.order (i ∷ []) j 0 old) (w.within j old)
-    | inr last ↦ (let same : j ≡ length m.order = omega (arith, length_append_last m.order i) in
-        rw (same, get_append_last m.order i 0) (omega (arith, unmarked_within m.reached i fresh, w.long)))
+    | inl old ↦ rw (get_or_append_left m.order (i ∷ []) 0 j old) (w.within j old)
+    | inr last ↦ (let same : j ≡ length m.order = omega (arith, length_push m.order i) in
+        rw (same, get_or_push m.order i 0 (length m.order) refl)
+        (omega (arith, unmarked_within m.reached i fresh, w.long)))
   ]
 
   new_ordered : Walked s vs k m → get_or m.reached i true ≡ false → (j : ℕ) → j < length (m.order ++ i ∷ [])
       → get_or (set m.reached i true) (get_or (m.order ++ i ∷ []) j 0) false ≡ true
   new_ordered w fresh j less = elim (cases_lt j (length m.order)) [
-    | inl old ↦ rw (get_append_left m.order (i ∷ []) j 0 old)
-        (set_grows m.reached i (get_or m.order j 0) (w.ordered j old))
-    | inr last ↦ (let same : j ≡ length m.order = omega (arith, length_append_last m.order i) in
-        rw (same, get_append_last m.order i 0) (set_same m.reached i (unmarked_within m.reached i fresh)))
+    | inl old ↦ rw (get_or_append_left m.order (i ∷ []) 0 j old)
+        (marked_still m.reached i (get_or m.order j 0) (w.ordered j old))
+    | inr last ↦ (let same : j ≡ length m.order = omega (arith, length_push m.order i) in
+        rw (same, get_or_push m.order i 0 (length m.order) refl)
+        (marked_set m.reached i (unmarked_within m.reached i fresh)))
   ]
 
   new_sound : Walked s vs k m → Reach s (cell_at s.cells i).number → (j : ℕ) → get_or (set m.reached i true) j false
       ≡ true → Reach s (cell_at s.cells j).number
-  new_sound w reach j e = elim (set_new m.reached i j e) [
+  new_sound w reach j e = elim (marked_new m.reached i j e) [
     | inl same ↦ subst (λ x. Reach s (cell_at s.cells x).number) (sym same) reach
     | inr old ↦ w.sound j old
   ]
 
   new_done : Walked s vs k m → (j : ℕ) → get_or (set m.reached i true) j false ≡ true
       → IsIn j (drop k (m.order ++ i ∷ [])) ⊎ AllNoted s.cells (cell_at s.cells j).fields marked_one
-  new_done w j e = rw (drop_append k m.order (i ∷ []) w.begun) (elim (set_new m.reached i j e) [
-    | inl same ↦ inl (subst (λ x. IsIn x (drop k m.order ++ i ∷ [])) (sym same) (in_append_last i (drop k m.order)))
+  new_done w j e = rw (drop-append-le k m.order (i ∷ []) w.begun) (elim (marked_new m.reached i j e) [
+    | inl same ↦ inl (subst (λ x. IsIn x (drop k m.order ++ i ∷ [])) (sym same) (in_last i (drop k m.order)))
     | inr old ↦ (elim (w.done j old) [
-      | inl open' ↦ inl (in_append_left j (drop k m.order) (i ∷ []) open')
+      | inl open' ↦ inl (in_left j (drop k m.order) (i ∷ []) open')
       | inr noted' ↦ inr (still (cell_at s.cells j).fields noted')
     ])
   ])
@@ -169,14 +107,14 @@ module _ (s : Store) (vs : List Value) (k i : ℕ) (m : Marked) where
   mark_one : Walked s vs k m → get_or m.reached i true ≡ false → Reach s (cell_at s.cells i).number
       → Walked s vs k marked_one
   mark_one w fresh reach = record {
-    long = set_length m.reached i ∙ w.long;
+    long = length-set m.reached i true ∙ w.long;
     within = new_within w fresh;
-    counted = length_append_last m.order i ∙ ap suc w.counted ∙ sym (set_count m.reached i fresh);
+    counted = omega (arith, length_push m.order i, w.counted, count_set m.reached i fresh);
     ordered = new_ordered w fresh;
     sound = new_sound w reach;
     values = still vs w.values;
     done = new_done w;
-    begun = omega (arith, w.begun, length_append_last m.order i);
+    begun = omega (arith, w.begun, length_push m.order i);
   }
 
 -- Marking what a value names
@@ -202,12 +140,12 @@ note_at s vs k i m w reach less = here (get_or m.reached i true) refl
     here false fresh = (
       record {
         walked = mark_one s vs k i m w fresh reach;
-        grows = λ j e. set_grows m.reached i j e;
-        longer = omega (arith, length_append_last m.order i);
+        grows = λ j e. marked_still m.reached i j e;
+        longer = omega (arith, length_push m.order i);
         kept =
-            λ j old. get_append_left m.order (i ∷ []) j 0 old;
+            λ j old. get_or_append_left m.order (i ∷ []) 0 j old;
       },
-      set_same m.reached i (unmarked_within m.reached i fresh),
+      marked_set m.reached i (unmarked_within m.reached i fresh),
     )
 
 -- the cell found for a number has this number
@@ -269,29 +207,16 @@ note_values s vs (u ∷ us) k m w reach =
 
 -- The walk
 
-no_mark : (n i : ℕ) → get_or (replicate n false) i false ≡ true → ⊥
-no_mark zero i e = true≢false (sym e)
-no_mark (suc n) zero e = true≢false (sym e)
-no_mark (suc n) (suc i) e = no_mark n i e
-
-pub count_none : (n : ℕ) → count_true (replicate n false) ≡ 0
-count_none zero = refl
-count_none (suc n) = count_none n
-
-pub length_filled : (n : ℕ) → length (replicate n false) ≡ n
-length_filled zero = refl
-length_filled (suc n) = ap suc (length_filled n)
-
 -- nothing is marked at first
 pub walk_begins : (s : Store) → Walked s [] 0 (record { reached = replicate (length s.cells) false; order = [] })
 walk_begins s = record {
-  long = length_filled (length s.cells);
+  long = length-replicate (length s.cells) false;
   within = λ j less. absurd (omega (arith, less));
   counted = sym (count_none (length s.cells));
   ordered = λ j less. absurd (omega (arith, less));
-  sound = λ i e. absurd (no_mark (length s.cells) i e);
+  sound = λ i e. absurd (unmarked_none (length s.cells) i e);
   values = λ n i here is. absurd here;
-  done = λ i e. absurd (no_mark (length s.cells) i e);
+  done = λ i e. absurd (unmarked_none (length s.cells) i e);
   begun = omega arith;
 }
 
@@ -375,12 +300,6 @@ walk_more s vs k at m w less is = record {
 
 -- The end of the walk
 
-past_end : (k : ℕ) (xs : List ℕ) (x : ℕ) → length xs ≤ k → IsIn x (drop k xs) → ⊥
-past_end zero [] x less h = h
-past_end zero (y ∷ ys) x less h = absurd (omega (arith, less))
-past_end (suc k) [] x less h = h
-past_end (suc k) (y ∷ ys) x less h = past_end k ys x (omega (arith, less)) h
-
 module _ (s : Store) (k : ℕ) (m : Marked) (rising : CellsRiseFrom 0 s.cells) (w : Walked s s.vars k m)
     (ended : length m.order ≤ k) where
   -- a cell stands at a position of its own
@@ -455,16 +374,16 @@ pub walk_within : (s : Store) (vs : List Value) (k : ℕ) (m : Marked) → Walke
 walk_within s vs k m w = omega (arith, w.counted, w.long, count_within m.reached)
 
 -- with one more mark there is still room for each
-pub counted_more : (order : List ℕ) (reached : List Bool) (at room room' : ℕ) → (length order ≡ count_true reached)
+pub counted_more : (order : List ℕ) (reached : List Bool) (at room room' : ℕ) → (length order ≡ marked_count reached)
     × (length reached ≤ room) → room ≤ room' → get_or reached at true ≡ false
-    → (length (order ++ at ∷ []) ≡ count_true (set reached at true)) × (length (set reached at true) ≤ room')
+    → (length (order ++ at ∷ []) ≡ marked_count (set reached at true)) × (length (set reached at true) ≤ room')
 counted_more order reached at room room' h less fresh = (
-  length_append_last order at ∙ ap suc h.0 ∙ sym (set_count reached at fresh),
-  omega (arith, h.1, less, set_length reached at),
+  omega (arith, length_push order at, h.0, count_set reached at fresh),
+  omega (arith, h.1, less, length-set reached at true),
 )
 
 -- where one is not marked, there is room for it
-pub fresh_room : (order : List ℕ) (reached : List Bool) (at room : ℕ) → (length order ≡ count_true reached)
+pub fresh_room : (order : List ℕ) (reached : List Bool) (at room : ℕ) → (length order ≡ marked_count reached)
     × (length reached ≤ room) → get_or reached at true ≡ false → length order < room
 fresh_room order reached at room h fresh =
-    omega (arith, h.0, h.1, set_count reached at fresh, set_length reached at, count_within (set reached at true))
+    omega (arith, h.0, h.1, count_set reached at fresh, length-set reached at true, count_within (set reached at true))

@@ -1,6 +1,7 @@
 -- Marking the cells that values name.
-use Rattle.std.specs.Prelude.{◌≡◌, ◌≤◌, ℕ, suc, Bool, true, false, length, List, [], ◌∷◌, ◌++◌, if◌then◌else◌, Option}
+use Rattle.std.specs.Prelude.{◌≡◌, ◌≤◌, ℕ, Bool, true, length, List, [], ◌∷◌, ◌++◌, if◌then◌else◌, Option}
 use Rattle.std.specs.Prelude.{Some, None, slice_index_or, slice_set}
+use Rattle.fore_base.specs.Marks.{marked_count}
 use Rattle.fore_base.specs.declared.store.Value.{Value}
 use Rattle.fore_base.specs.declared.store.Value.TheVariants.{Null, Uninit, Dangling, Cell}
 use Rattle.fore_base.specs.declared.store.CellRec.{CellRec}
@@ -16,15 +17,9 @@ pub record Marked : Type 0 where
 abbrev pub seen : Marks → Marked
 seen m = record { reached = m.reached.items; order = m.order.items }
 
--- how many are true
-abbrev pub count_true : List Bool → ℕ
-count_true [] = 0
-count_true (true ∷ bs) = suc (count_true bs)
-count_true (false ∷ bs) = count_true bs
-
 -- there are as many positions as marks, and there is room for the position of each cell
 abbrev pub IsCounted : Marks → Type 0
-IsCounted m = (length m.order.items ≡ count_true m.reached.items) × (length m.reached.items ≤ vec_capacity m.order)
+IsCounted m = (length m.order.items ≡ marked_count m.reached.items) × (length m.reached.items ≤ vec_capacity m.order)
 
 -- the marks with the cell at a position marked, if there is one and it was not
 abbrev pub noted_at : Option ℕ → Marked → Marked
