@@ -21,8 +21,7 @@ use Rattle.std.proofs.lemmas.List.{drop_all}
 
 pub closes_closed : (w : Around) (ps ds : List ℕ) (m : ℕ) → inside w (closes ps ds m Done) ≡ closed w ps ds
 closes_closed w [] [] m = refl
-closes_closed w [] (d ∷ ds) m = refl
-closes_closed w (p ∷ ps) ds m = refl
+closes_closed w _ _ m = refl
 
 -- an act closes no block
 abbrev ClosesNone : (Items → Items) → Type 0

@@ -104,13 +104,11 @@ module _ (nv nd exit : ℕ) (line : ℕ → ℕ) where
       (h.0, h.1, ap (merged qs) h.2, ap (merged es) h.3)
   round_then n (If c x y is) i r ps ds p e f = round_then n is _ r ps ds p.2 e f
   round_then n (Loop c d b is) i r ps ds p e f = round_then n is _ r ps ds p.2 e f
-  round_then n (Again c d b is) i r ps ds p e f = absurd p
   round_then n (DoLoop c b is) i r ps ds p e f = round_then n is _ r ps ds p.1 e f
-  round_then n (DoAgain c b is) i r ps ds p e f = absurd p
   round_then n (Enter vs ws m is) i r ps ds p e f = round_then (suc n) is _ r ps ds p e f
   round_then n (Leave v vs a m is) i r ps ds p e f = round_then n is _ r ps ds p e f
-  round_then zero (Exit v vs t m is) i r ps ds p e f = absurd p
   round_then (suc n) (Exit v vs t m is) i r ps ds p e f = round_then n is _ r ps ds p e f
+  round_then _ _ i r ps ds p e f = absurd p
 
   back_then : (n : ℕ) (is : Items) → IsWhole n is → (m : ℕ) → m ≤ n → (i : ℕ) (r : Items) (b : ℕ)
       → loc nv nd exit (opened (from_exit r)) ≡ b
@@ -148,12 +146,9 @@ module _ (nv nd exit : ℕ) (line : ℕ → ℕ) where
   act_emits (SetPtr to from) m i is w k e f = ap (chain (line i) (act_row nv nd (SetPtr to from) is) i) e
   act_emits (SetData to from) m i is w k e f = ap (chain (line i) (act_row nv nd (SetData to from) is) i) e
   act_emits (FreeAct p) m i is w k e f = ap (chain (line i) (act_row nv nd (FreeAct p) is) i) e
-  act_emits Error m i is w k e f = refl
-  act_emits Halt m i is w k e f = refl
-  act_emits (Return operand) m i is w k e f = refl
-  act_emits (LeaveAct g value) m i is w k e f = refl
   act_emits Break m i is w k e f = rw (f.leaves, f.ptrs, f.datums) refl
   act_emits Continue m i is w k e f = rw (f.agains, f.ptrs, f.datums) refl
+  act_emits _ m i is w k e f = refl
 
   three_more : (xs ys zs : List Items) (a b c : List Edge) → all_edges nv nd exit line xs ≡ a
       → all_edges nv nd exit line ys ≡ b → all_edges nv nd exit line zs ≡ c
@@ -282,8 +277,6 @@ module _ (nv nd exit : ℕ) (line : ℕ → ℕ) where
       (test_emits c i1 (do_round C B) Done q _ _
       (ap (λ z. loc nv nd exit (opened z)) (then_then B (DoAgain C B Done) q) ∙ leads b i (DoAgain C B q) i1 ea) eq
       l.1) (emits n is p.1 i2 r w k e f l.2)
-  emits n (Again c d b is) p i r w k e f h = absurd p
-  emits n (DoAgain c b is) p i r w k e f h = absurd p
   emits n (Enter vs ws m is) p i r w k e f h =
       let j = i + enter_width nv nd vs ws in
       let l = lined_step nv nd line i (enter_width nv nd vs ws) m (lines nv nd is) (omega arith) h in
@@ -293,8 +286,8 @@ module _ (nv nd exit : ℕ) (line : ℕ → ℕ) where
       let l = lined_step nv nd line i (leave_width nv nd v vs a) m (lines nv nd is) (omega arith) h in
       chain_more (leave_row nv nd v vs a) i _ _ _ _ _ _ l.0 (back_then n is p 0 (omega arith) j r w.back f.backs)
       (emits n is p j r w k e f l.1)
-  emits zero (Exit v vs d m is) p i r w k e f h = absurd p
   emits (suc n) (Exit v vs d m is) p i r w k e f h =
       let j = i + exit_width nv nd v vs d in
       let l = lined_step nv nd line i (exit_width nv nd v vs d) m (lines nv nd is) (omega arith) h in
       chain_more (exit_row nv nd v vs d) i _ _ _ _ _ _ l.0 (leads is j r k e) (emits n is p j r w k e f l.1)
+  emits _ _ p i r w k e f h = absurd p

@@ -10,11 +10,9 @@ use Rattle.c_types.specs.declared.program.Atom.{Atom}
 use Rattle.c_types.specs.declared.program.Atom.TheVariants.{Choice as ChoiceAtom, Known as KnownAtom, Ptr as PtrAtom}
 use Rattle.c_types.specs.declared.program.Atom.TheVariants.{Data as DataAtom}
 use Rattle.c_types.specs.Program.{Program}
-use Rattle.c_types.specs.Control.{Items, Done, Do, Close, If, Loop, Again, DoLoop, DoAgain, Enter, Leave, Exit, Ask}
-use Rattle.c_types.specs.Control.{Not, Both, Either}
+use Rattle.c_types.specs.Control.{Items, Done, Do, Close, If, Enter, Leave, Exit, Ask}
 use Rattle.c_cfg.specs.declared.graph.Instr.{Instr}
-use Rattle.c_cfg.specs.declared.graph.Instr.TheVariants.{CopyPtr, LoadPtr, StorePtr, StoreConst, New, Free, Kill}
-use Rattle.c_cfg.specs.declared.graph.Instr.TheVariants.{CopyData, LoadData, StoreData, TestPtr, TestData, Choose, Stop}
+use Rattle.c_cfg.specs.declared.graph.Instr.TheVariants.{New, Kill}
 use Rattle.c_cfg.specs.declared.graph.Edge.{Edge}
 use Rattle.c_cfg.specs.Graphs.{ControlGraph, may_have, HasItsChoice}
 use Rattle.c_cfg.specs.GraphRuns.{out_of}
@@ -140,13 +138,6 @@ module _ (es : List Edge) where
       row_in (Close ps ds m is) h =
           over_in (line m) (One (Kill ps ds) ∷ []) (at (Close ps ds m is)) (mids (Close ps ds m is)) _ h
       row_in (If (Ask a m) x y is) h = atom_in a (line m) (at (If (Ask a m) x y is)) (mids (If (Ask a m) x y is)) _ _ h
-      row_in (If (Not c) x y is) h = h
-      row_in (If (Both c d) x y is) h = h
-      row_in (If (Either c d) x y is) h = h
-      row_in (Loop c n b is) h = h
-      row_in (Again c n b is) h = h
-      row_in (DoLoop c b is) h = h
-      row_in (DoAgain c b is) h = h
       row_in (Enter vs ws m is) h =
           over_plain (line m) (enter_row nv nd vs ws) (at (Enter vs ws m is)) (mids (Enter vs ws m is)) _
           (enter_plain nv nd vs ws) h
@@ -156,6 +147,7 @@ module _ (es : List Edge) where
       row_in (Exit v vs d m is) h =
           over_plain (line m) (exit_row nv nd v vs d) (at (Exit v vs d m is)) (mids (Exit v vs d m is)) _
           (exit_plain nv nd v vs d) h
+      row_in _ h = h
 
       rows_in : (cs : List Items) → Every (IsRow nv nd es Always line at mids) cs
           → Every (IsRow nv nd (edges_in MayFail es) MayFail line at mids) cs
@@ -197,20 +189,8 @@ order_in (e ∷ es) h =
 -- the choices of the two edges are their own
 failing_told : (line k to : ℕ) (i : Instr) → may_have i None ≡ true
     → Every HasItsChoice (link_edges line k to (failing i))
-failing_told line k to (CopyPtr x from) h = (h, tt)
-failing_told line k to (LoadPtr x from f) h = (h, tt)
-failing_told line k to (StorePtr x f from) h = (h, tt)
-failing_told line k to (StoreConst x f v) h = (h, tt)
 failing_told line k to (New x shape) h = (refl, (refl, tt))
-failing_told line k to (Free x) h = (h, tt)
-failing_told line k to (Kill ps ds) h = (h, tt)
-failing_told line k to (CopyData x from) h = (h, tt)
-failing_told line k to (LoadData x from f) h = (h, tt)
-failing_told line k to (StoreData x f from) h = (h, tt)
-failing_told line k to (TestPtr l r e) h = (h, tt)
-failing_told line k to (TestData l r e) h = (h, tt)
-failing_told line k to (Choose x) h = (h, tt)
-failing_told line k to (Stop e) h = (h, tt)
+failing_told line k to _ h = (h, tt)
 
 for_told : (o : Option ℕ) (e : Edge) → may_have e.instr o ≡ true → Every HasItsChoice (edges_for o e)
 for_told None e h = failing_told e.line e.from e.to e.instr h

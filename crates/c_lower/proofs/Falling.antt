@@ -3,6 +3,7 @@ use Rattle.std.specs.Prelude.{get_or, pred}
 use Rattle.std.proofs.Common.{◌≡◌, ℕ, zero, suc, ◌+◌, ◌<◌, ◌≤◌, List, [], ◌∷◌, length, map, slice_get, Option, Some}
 use Rattle.std.proofs.Common.{None}
 use Rattle.std.proofs.Common.{refl, ap, arith}
+use Rattle.std.proofs.lemmas.Option.{none-some}
 use Rattle.c_types.specs.declared.program.Arg.{Arg}
 use Rattle.c_types.specs.declared.program.Cond.{Cond}
 use Rattle.c_types.specs.declared.program.Dest.{Dest}
@@ -82,10 +83,7 @@ unfolding parts_in
 no_parts = refl
 
 among : (gs : List Func) (f : ℕ) (g : Func) → slice_get gs f ≡ Some g → parts_in g.body ≤ parts_within gs
-among [] f g e = absurd (nothing g e)
-  where
-    nothing : (z : Func) → None ≡ Some z → ⊥
-    nothing z h = cc
+among [] f g e = absurd (none-some g e)
 among (x ∷ gs) zero g e = let same = ap (λ (z : Option Func). asked z) e in omega (arith, same)
   where
     asked : Option Func → ℕ

@@ -2,8 +2,7 @@
 use Rattle.std.proofs.Common.{◌≡◌, ℕ, zero, suc, ◌+◌, ◌≤◌, List, ◌∷◌, ◌++◌, refl, sym, ap, ◌∙◌, arith, None}
 use Rattle.std.proofs.lemmas.List.{append_assoc}
 use Rattle.c_types.specs.declared.program.Act.{Act}
-use Rattle.c_types.specs.declared.program.Act.TheVariants.{SetPtr, SetData, Free as FreeAct, Error, Halt, Return, Break}
-use Rattle.c_types.specs.declared.program.Act.TheVariants.{Continue, Leave as LeaveAct}
+use Rattle.c_types.specs.declared.program.Act.TheVariants.{SetPtr}
 use Rattle.c_types.specs.Control.{Items, Done, Do, Close, If, Loop, Again, DoLoop, DoAgain, Enter, Leave, Exit, ◌then◌}
 use Rattle.c_types.specs.Control.{merged}
 use Rattle.c_cfg.specs.declared.graph.Instr.TheVariants.{Kill}
@@ -116,14 +115,7 @@ module _ (nv nd exit : ℕ) where
   act_same : (w : Around) (d : Items) (a : Act) (j k : ℕ) → act_to exit w a k
       ≡ act_to exit (before nv nd w d j) a k
   act_same w d (SetPtr to from) j k = refl
-  act_same w d (SetData to from) j k = refl
-  act_same w d (FreeAct p) j k = refl
-  act_same w d Error j k = refl
-  act_same w d Halt j k = refl
-  act_same w d (Return operand) j k = refl
-  act_same w d (LeaveAct f value) j k = refl
-  act_same w d Break j k = refl
-  act_same w d Continue j k = refl
+  act_same w d _ j k = refl
 
   -- where the rest of some items leads
   after_both : (is d : Items) (i j k : ℕ) → j ≡ i + width nv nd is → first_of (width nv nd (is then d)) i k
@@ -208,8 +200,6 @@ module _ (nv nd exit : ℕ) where
       ++ (emit_test nv nd c i1 (first_of (width nv nd b) i i1) to ++ es)) (emit_then n is p.1 d w i2 j k e1)
       ∙ assoc3 (emit nv nd exit b (in_loop to i1 back) i i1) (emit_test nv nd c i1 (first_of (width nv nd b) i i1) to)
       _ _
-  emit_then n (Again c x b is) p d w i j k e = absurd p
-  emit_then n (DoAgain c b is) p d w i j k e = absurd p
   emit_then n (Enter vs ws m is) p d w i j k e =
       let i1 = i + enter_width nv nd vs ws in
       let e1 : j ≡ i1 + width nv nd is = omega (arith, e) in
@@ -220,8 +210,8 @@ module _ (nv nd exit : ℕ) where
       let e1 : j ≡ i1 + width nv nd is = omega (arith, e) in
       chain_then (leave_row nv nd v vs a) i m _ _ _ _ _ (back_both nv nd n is p 0 (omega arith) d i1 j w.back e1)
       (emit_then n is p d w i1 j k e1)
-  emit_then zero (Exit v vs t m is) p d w i j k e = absurd p
   emit_then (suc n) (Exit v vs t m is) p d w i j k e =
       let i1 = i + exit_width nv nd v vs t in
       let e1 : j ≡ i1 + width nv nd is = omega (arith, e) in
       chain_then (exit_row nv nd v vs t) i m _ _ _ _ _ (after_both is d i1 j k e1) (emit_then n is p d w i1 j k e1)
+  emit_then _ _ p d w i j k e = absurd p

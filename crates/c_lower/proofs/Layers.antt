@@ -4,7 +4,6 @@ use Rattle.std.proofs.Common.{◌≡◌, ℕ, zero, suc, ◌+◌, ◌<◌, ◌�
 use Rattle.std.proofs.Common.{Option, Some, None, slice_get}
 use Rattle.std.proofs.lemmas.List.{append-nil}
 use Rattle.c_types.specs.declared.program.Act.{Act}
-use Rattle.c_types.specs.declared.program.Act.TheVariants.{SetPtr, SetData, Free, Error, Halt, Return, Break, Continue}
 use Rattle.c_types.specs.declared.program.Act.TheVariants.{Leave as LeaveAct}
 use Rattle.c_types.specs.declared.program.Cond.{Cond}
 use Rattle.c_types.specs.declared.program.Stmt.{Stmt}
@@ -16,6 +15,7 @@ use Rattle.c_types.specs.Control.{Items, Done, Loop, Exit, ◌then◌, closes, l
 use Rattle.c_types.proofs.Composing.{act_composed}
 use Rattle.c_types.proofs.Layers.{by-Do, by-Branch, by-While, by-DoWhile, by-For, by-Group}
 use Rattle.c_types.proofs.Standing.{all_stand}
+use Rattle.c_cfg.specs.declared.graph.Edge.{Edge}
 use Rattle.c_lower.specs.declared.around.Around.{Around}
 use Rattle.c_links.specs.Chains.{chain}
 use Rattle.c_cfg.specs.Links.{enter_row, exit_row}
@@ -28,6 +28,7 @@ use Rattle.c_lower.proofs.Closing.{closes_closed}
 use Rattle.c_lower.proofs.Standing.{closes_whole, stmt_whole, all_whole, items-more, call_is, call_none}
 use Rattle.std.proofs.lemmas.List.{drop_all}
 use Rattle.c_lower.proofs.LoopHeads.{heads_then}
+use Rattle.c_lower.proofs.Stacking.{first_wide}
 use Rattle.c_lower.proofs.Joined.{width_then, before_whole, emit_then}
 
 -- Room
@@ -64,15 +65,8 @@ module _ (funcs : List Func) (deep nv nd : ℕ) where
   leave_wide (Some g) f value line = refl
 
   act_wide : (a : Act) (line : ℕ) → width nv nd (act_items funcs a line Done) ≡ width nv nd (act_items funcs a 0 Done)
-  act_wide (SetPtr to from) line = refl
-  act_wide (SetData to from) line = refl
-  act_wide (Free p) line = refl
-  act_wide Error line = refl
-  act_wide Halt line = refl
-  act_wide (Return operand) line = refl
   act_wide (LeaveAct f value) line = leave_wide (slice_get funcs f) f value line
-  act_wide Break line = refl
-  act_wide Continue line = refl
+  act_wide _ line = refl
 
   pub wide-Do : (a : Act) (line : ℕ) → wide_stmt funcs deep nv nd (DoStmt a line)
       ≡ width nv nd (act_items funcs a 0 Done)
@@ -101,8 +95,7 @@ module _ (funcs : List Func) (deep nv nd : ℕ) where
 
   closes_wide : (ps ds : List ℕ) (m : ℕ) → width nv nd (closes ps ds m Done) ≡ close_width ps ds
   closes_wide [] [] m = refl
-  closes_wide [] (d ∷ ds) m = refl
-  closes_wide (p ∷ ps) ds m = refl
+  closes_wide _ _ m = refl
 
   group_items : (b : List Stmt) (ps ds : List ℕ) (m : ℕ) → items_one funcs deep (Group b ps ds m)
       ≡ items_in funcs deep b
@@ -185,15 +178,8 @@ module _ (funcs : List Func) (deep nv nd : ℕ) where
 
     act_emits : (a : Act) (line : ℕ) (w : Around) (i k : ℕ) → emit nv nd exit (act_items funcs a line Done) w i k
         ≡ chain line (links_of funcs nv nd w.ptrs w.datums a) i (step_to funcs exit w a k)
-    act_emits (SetPtr to from) line w i k = append-nil _
-    act_emits (SetData to from) line w i k = append-nil _
-    act_emits (Free p) line w i k = append-nil _
-    act_emits Error line w i k = append-nil _
-    act_emits Halt line w i k = append-nil _
-    act_emits (Return operand) line w i k = append-nil _
     act_emits (LeaveAct f value) line w i k = leave_emits (slice_get funcs f) f value line w i k
-    act_emits Break line w i k = append-nil _
-    act_emits Continue line w i k = append-nil _
+    act_emits _ line w i k = append-nil _
 
     pub emit-Do : (a : Act) (line : ℕ) (w : Around) (i k : ℕ) → emit_stmt funcs deep nv nd exit (DoStmt a line) w i k
         ≡ chain line (links_of funcs nv nd w.ptrs w.datums a) i (step_to funcs exit w a k)
@@ -218,17 +204,19 @@ module _ (funcs : List Func) (deep nv nd : ℕ) where
         (append-nil (emit nv nd exit (items_in funcs deep y) w
         (i + test_width nv nd (test_of c) + width nv nd (items_in funcs deep x)) k))
 
+    -- the edges of a `while` or `for`, with the next step n and the body b
+    abbrev pub loop_edges : Cond → List Stmt → List Stmt → Around → ℕ → ℕ → List Edge
+    loop_edges c n b w i k =
+        let inside : ℕ = i + test_width nv nd (test_of c) in
+        let after : ℕ = inside + wide_all funcs deep nv nd b in
+        let again : ℕ = first_of (wide_all funcs deep nv nd n) after i in
+        emit_test nv nd (test_of c) i (first_of (wide_all funcs deep nv nd b) inside again) k
+        ++ (emit_all funcs deep nv nd exit b (in_loop k again w.back) inside again
+        ++ emit_all funcs deep nv nd exit n w after i)
+
     emit-loop : (c : Cond) (n b : List Stmt) (w : Around) (i k : ℕ)
         → emit nv nd exit (Loop (test_of c) (items_in funcs deep n) (items_in funcs deep b) Done) w i k
-        ≡ emit_test nv nd (test_of c) i
-        (first_of (wide_all funcs deep nv nd b) (i + test_width nv nd (test_of c))
-        (first_of (wide_all funcs deep nv nd n) (i + test_width nv nd (test_of c) + wide_all funcs deep nv nd b) i)) k
-        ++ (emit_all funcs deep nv nd exit b
-        (in_loop k (first_of (wide_all funcs deep nv nd n) (i + test_width nv nd (test_of c) + wide_all funcs deep nv nd
-        b) i) w.back)
-        (i + test_width nv nd (test_of c))
-        (first_of (wide_all funcs deep nv nd n) (i + test_width nv nd (test_of c) + wide_all funcs deep nv nd b) i)
-        ++ emit_all funcs deep nv nd exit n w (i + test_width nv nd (test_of c) + wide_all funcs deep nv nd b) i)
+        ≡ loop_edges c n b w i k
     unfolding emit_all wide_all
     emit-loop c n b w i k =
         ap
@@ -249,29 +237,13 @@ module _ (funcs : List Func) (deep nv nd : ℕ) where
 
     pub emit-For : (c : Cond) (n b : List Stmt) (w : Around) (i k : ℕ)
         → emit_stmt funcs deep nv nd exit (For c n b) w i k
-        ≡ emit_test nv nd (test_of c) i
-        (first_of (wide_all funcs deep nv nd b) (i + test_width nv nd (test_of c))
-        (first_of (wide_all funcs deep nv nd n) (i + test_width nv nd (test_of c) + wide_all funcs deep nv nd b) i)) k
-        ++ (emit_all funcs deep nv nd exit b
-        (in_loop k (first_of (wide_all funcs deep nv nd n) (i + test_width nv nd (test_of c) + wide_all funcs deep nv nd
-        b) i) w.back)
-        (i + test_width nv nd (test_of c))
-        (first_of (wide_all funcs deep nv nd n) (i + test_width nv nd (test_of c) + wide_all funcs deep nv nd b) i)
-        ++ emit_all funcs deep nv nd exit n w (i + test_width nv nd (test_of c) + wide_all funcs deep nv nd b) i)
+        ≡ loop_edges c n b w i k
     unfolding emit_stmt
     emit-For c n b w i k = ap (λ z. emit nv nd exit z w i k) (by-For funcs under c n b Done) ∙ emit-loop c n b w i k
 
     pub emit-While : (c : Cond) (b : List Stmt) (w : Around) (i k : ℕ)
         → emit_stmt funcs deep nv nd exit (While c b) w i k
-        ≡ emit_test nv nd (test_of c) i
-        (first_of (wide_all funcs deep nv nd b) (i + test_width nv nd (test_of c))
-        (first_of (wide_all funcs deep nv nd []) (i + test_width nv nd (test_of c) + wide_all funcs deep nv nd b) i)) k
-        ++ (emit_all funcs deep nv nd exit b
-        (in_loop k (first_of (wide_all funcs deep nv nd []) (i + test_width nv nd (test_of c) + wide_all funcs deep nv
-        nd b) i) w.back)
-        (i + test_width nv nd (test_of c))
-        (first_of (wide_all funcs deep nv nd []) (i + test_width nv nd (test_of c) + wide_all funcs deep nv nd b) i)
-        ++ emit_all funcs deep nv nd exit [] w (i + test_width nv nd (test_of c) + wide_all funcs deep nv nd b) i)
+        ≡ loop_edges c [] b w i k
     unfolding emit_stmt
     emit-While c b w i k = ap (λ z. emit nv nd exit z w i k) (by-While funcs under c b Done) ∙ emit-loop c [] b w i k
 
@@ -295,8 +267,7 @@ module _ (funcs : List Func) (deep nv nd : ℕ) where
     closes_edges : (ps ds : List ℕ) (m : ℕ) (w : Around) (i k : ℕ) → emit nv nd exit (closes ps ds m Done) w i k
         ≡ close_edges ps ds m i k
     closes_edges [] [] m w i k = refl
-    closes_edges [] (d ∷ ds) m w i k = refl
-    closes_edges (p ∷ ps) ds m w i k = refl
+    closes_edges _ _ m w i k = refl
 
     pub emit-Group : (b : List Stmt) (ps ds : List ℕ) (m : ℕ) (w : Around) (i k : ℕ)
         → emit_stmt funcs deep nv nd exit (Group b ps ds m) w i k
@@ -322,10 +293,6 @@ module _ (funcs : List Func) (deep nv nd : ℕ) where
         (first_of (close_width ps ds) (i + width nv nd (items_in funcs deep b)) k) ++ es)
         (closes_edges ps ds m w (i + width nv nd (items_in funcs deep b)) k)
 
-    some_first : (n i k : ℕ) → 0 < n → first_of n i k ≡ i
-    some_first zero i k h = absurd (omega (arith, h))
-    some_first (suc n) i k h = refl
-
     -- the enter leads to the body, or to the exit where it has no location; a `return` in it leads to the exit
     pub emit-Call : (f : ℕ) (args : List Arg) (to' : Option Dest) (line : ℕ) (g : Func) (w : Around)
         (i i1 i2 k : ℕ) → slice_get funcs f ≡ Some g → i1 ≡ i + enter_width nv nd g.params args
@@ -341,8 +308,8 @@ module _ (funcs : List Func) (deep nv nd : ℕ) where
         let after = first_of (width nv nd (own then last)) (i + enter_width nv nd g.params args) k in
         let wide = width_then nv nd own last in
         let first : first_of (width nv nd (own then last)) i1 k ≡ i1 =
-        some_first (width nv nd (own then last)) i1 k (omega (arith, wide)) in
-        let end : first_of (width nv nd last) i2 k ≡ i2 = some_first (width nv nd last) i2 k (omega arith) in
+        first_wide (width nv nd (own then last)) i1 k (omega (arith, wide)) in
+        let end : first_of (width nv nd last) i2 k ≡ i2 = first_wide (width nv nd last) i2 k (omega arith) in
         ap (λ z. emit nv nd exit z w i k) (call_is funcs deep f args to' line g e)
         ∙ ap (λ j. chain line (enter_row nv nd g.params args) i (first_of (width nv nd (own then last)) j k)
         ++ emit nv nd exit (own then last) w j k) (sym e1)
@@ -430,8 +397,7 @@ module _ (funcs : List Func) (deep nv nd : ℕ) where
 
   closes_heads : (ps ds : List ℕ) (m i : ℕ) → head_numbers nv nd (closes ps ds m Done) i ≡ []
   closes_heads [] [] m i = refl
-  closes_heads [] (d ∷ ds) m i = refl
-  closes_heads (p ∷ ps) ds m i = refl
+  closes_heads _ _ m i = refl
 
   pub heads-Group : (b : List Stmt) (ps ds : List ℕ) (m i : ℕ) → heads_stmt funcs deep nv nd (Group b ps ds m) i
       ≡ heads_all funcs deep nv nd b i

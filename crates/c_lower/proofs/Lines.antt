@@ -4,8 +4,7 @@ use Rattle.std.proofs.Common.{arith}
 use Rattle.std.specs.Prelude.{slice_index_or}
 use Rattle.std.proofs.lemmas.List.{length-append, length-replicate}
 use Rattle.c_types.specs.declared.program.Atom.{Atom}
-use Rattle.c_types.specs.declared.program.Atom.TheVariants.{Choice as ChoiceAtom, Known as KnownAtom, Ptr as PtrAtom}
-use Rattle.c_types.specs.declared.program.Atom.TheVariants.{Data as DataAtom}
+use Rattle.c_types.specs.declared.program.Atom.TheVariants.{Choice as ChoiceAtom}
 use Rattle.c_types.specs.Control.{Items, Done, Do, Close, If, Loop, Again, DoLoop, DoAgain, Enter, Leave, Exit, Test}
 use Rattle.c_types.specs.Control.{Ask, Not, Both, Either}
 use Rattle.c_cfg.specs.Places.{remark_test, remark}
@@ -98,9 +97,7 @@ module _ (nv nd : ℕ) where
 
   pub atom_wide : (a : Atom) → 0 < atom_width nv nd a
   atom_wide ChoiceAtom = omega arith
-  atom_wide (KnownAtom b) = omega arith
-  atom_wide (PtrAtom l r e) = omega arith
-  atom_wide (DataAtom l r e) = omega arith
+  atom_wide _ = omega arith
 
   test_back : (f : ℕ → ℕ) (c : Test) (i : ℕ) → Lined f i (test_lines nv nd c) → remark_test f (number_test nv nd c i)
       ≡ c

@@ -1,5 +1,5 @@
 -- The loop heads of numbered items, and of items that stand before items.
-use Rattle.std.proofs.Common.{◌≡◌, ℕ, zero, suc, ◌+◌, List, [], ◌∷◌, ◌++◌, map, refl, sym, ap, ◌∙◌, arith}
+use Rattle.std.proofs.Common.{◌≡◌, ℕ, suc, ◌+◌, List, [], ◌∷◌, ◌++◌, map, refl, sym, ap, ◌∙◌, arith}
 use Rattle.std.proofs.lemmas.List.{append_assoc}
 use Rattle.c_types.specs.Control.{Items, Done, Do, Close, If, Loop, Again, DoLoop, DoAgain, Enter, Leave, Exit, ◌then◌}
 use Rattle.c_types.specs.Control.{ask, round}
@@ -46,12 +46,10 @@ module _ (nv nd exit : ℕ) where
       (ap (λ k. k ∷ []) (loc_ask nv nd exit i1 c (do_round C B) Done q))
       (both_mapped (loc nv nd exit) (heads B (DoAgain C B q)) _ _ _ (heads_numbered 0 b p.0 i (DoAgain C B q))
       (heads_numbered n is p.1 i2 r))
-  heads_numbered n (Again c d b is) p i r = absurd p
-  heads_numbered n (DoAgain c b is) p i r = absurd p
   heads_numbered n (Enter vs ws m is) p i r = heads_numbered (suc n) is p (i + enter_width nv nd vs ws) r
   heads_numbered n (Leave v vs a m is) p i r = heads_numbered n is p (i + leave_width nv nd v vs a) r
-  heads_numbered zero (Exit v vs d m is) p i r = absurd p
   heads_numbered (suc n) (Exit v vs d m is) p i r = heads_numbered n is p (i + exit_width nv nd v vs d) r
+  heads_numbered _ _ p i r = absurd p
 
 module _ (nv nd : ℕ) where
   pub heads_then : (n : ℕ) (c : Items) → IsWhole n c → (d : Items) (i j : ℕ) → j ≡ i + width nv nd c
@@ -74,9 +72,7 @@ module _ (nv nd : ℕ) where
       let i1 = i + width nv nd b in let i2 = i1 + test_width nv nd c in
       ap (λ ks. i1 ∷ head_numbers nv nd b i ++ ks) (heads_then n is p.1 d i2 j (omega (arith, e)))
       ∙ sym (append_assoc (i1 ∷ head_numbers nv nd b i) (head_numbers nv nd is i2) (head_numbers nv nd d j))
-  heads_then n (Again c x b is) p d i j e = absurd p
-  heads_then n (DoAgain c b is) p d i j e = absurd p
   heads_then n (Enter vs ws m is) p d i j e = heads_then (suc n) is p d _ j (omega (arith, e))
   heads_then n (Leave v vs a m is) p d i j e = heads_then n is p d _ j (omega (arith, e))
-  heads_then zero (Exit v vs b m is) p d i j e = absurd p
   heads_then (suc n) (Exit v vs b m is) p d i j e = heads_then n is p d _ j (omega (arith, e))
+  heads_then _ _ p d i j e = absurd p

@@ -4,8 +4,7 @@ use Rattle.std.proofs.Common.{arith}
 use Rattle.std.specs.Prelude.{pred}
 use Rattle.std.proofs.lemmas.List.{append_assoc}
 use Rattle.fore_base.specs.Lists.{IsIn, IsDistinct}
-use Rattle.c_types.specs.declared.program.Atom.TheVariants.{Choice as ChoiceAtom, Known as KnownAtom, Ptr as PtrAtom}
-use Rattle.c_types.specs.declared.program.Atom.TheVariants.{Data as DataAtom}
+use Rattle.c_types.specs.declared.program.Atom.TheVariants.{Choice as ChoiceAtom}
 use Rattle.c_types.specs.Control.{Items, Done, Do, Close, If, Loop, Again, DoLoop, DoAgain, Enter, Leave, Exit, Ask}
 use Rattle.c_types.specs.Control.{Not, Both, Either}
 use Rattle.c_types.specs.Steps.{below, mark_of}
@@ -26,12 +25,6 @@ module _ (nv nd : ℕ) where
 
   pub wide : (c : Items) → IsOpen nv nd c → place_width nv nd c ≡ suc (pred (place_width nv nd c))
   wide Done o = absurd o
-  wide (Do a m is) o = refl
-  wide (Close ps ds m is) o = refl
-  wide (If (Ask ChoiceAtom m) x y is) o = refl
-  wide (If (Ask (KnownAtom b) m) x y is) o = refl
-  wide (If (Ask (PtrAtom l r e) m) x y is) o = refl
-  wide (If (Ask (DataAtom l r e) m) x y is) o = refl
   wide (If (Not c) x y is) o = absurd o
   wide (If (Both c d) x y is) o = absurd o
   wide (If (Either c d) x y is) o = absurd o
@@ -39,25 +32,17 @@ module _ (nv nd : ℕ) where
   wide (Again c n b is) o = absurd o
   wide (DoLoop c b is) o = absurd o
   wide (DoAgain c b is) o = absurd o
-  wide (Enter vs ws m is) o = refl
-  wide (Leave v vs a m is) o = refl
-  wide (Exit v vs d m is) o = refl
+  wide (If (Ask ChoiceAtom m) x y is) o = refl
+  wide _ o = refl
 
   loc_mark : (exit : ℕ) (c : Items) → IsOpen nv nd c → loc nv nd exit c ≡ mark_of c
-  loc_mark exit Done o = absurd o
   loc_mark exit (Do a m is) o = refl
   loc_mark exit (Close ps ds m is) o = refl
   loc_mark exit (If (Ask a m) x y is) o = refl
-  loc_mark exit (If (Not c) x y is) o = absurd o
-  loc_mark exit (If (Both c d) x y is) o = absurd o
-  loc_mark exit (If (Either c d) x y is) o = absurd o
-  loc_mark exit (Loop c n b is) o = absurd o
-  loc_mark exit (Again c n b is) o = absurd o
-  loc_mark exit (DoLoop c b is) o = absurd o
-  loc_mark exit (DoAgain c b is) o = absurd o
   loc_mark exit (Enter vs ws m is) o = refl
   loc_mark exit (Leave v vs a m is) o = refl
   loc_mark exit (Exit v vs d m is) o = refl
+  loc_mark exit _ o = absurd o
 
   pub numbers_are : (exit : ℕ) (ps : List Items) (i e : ℕ) → Stacked nv nd i ps e
       → numbers (loc nv nd exit) (mids_of nv nd) ps ≡ span i (total ps) ++ (exit ∷ [])

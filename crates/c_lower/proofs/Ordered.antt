@@ -8,8 +8,8 @@ use Rattle.c_types.specs.declared.program.DataOp.{DataOp}
 use Rattle.c_types.specs.declared.program.Atom.{Atom}
 use Rattle.c_types.specs.declared.program.Atom.TheVariants.{Choice as ChoiceAtom, Known as KnownAtom, Ptr as PtrAtom}
 use Rattle.c_types.specs.declared.program.Atom.TheVariants.{Data as DataAtom}
-use Rattle.c_types.specs.Control.{Items, Done, Do, Close, If, Loop, Again, DoLoop, DoAgain, Enter, Leave, Exit, Ask}
-use Rattle.c_types.specs.Control.{Not, Both, Either, opened, from_exit}
+use Rattle.c_types.specs.Control.{Items, Done, Do, Close, If, Enter, Leave, Exit, Ask}
+use Rattle.c_types.specs.Control.{opened, from_exit}
 use Rattle.c_types.specs.Steps.{mark_of}
 use Rattle.c_cfg.specs.declared.graph.Instr.{Instr}
 use Rattle.c_cfg.specs.declared.graph.Instr.TheVariants.{Kill}
@@ -137,7 +137,6 @@ module _ (nv nd : ℕ) where
 
   good_place : (exit : ℕ) (line : ℕ → ℕ) (c : Items) → IsOpen nv nd c
       → Good (mark_of c) (mark_of c + place_width nv nd c) (place_edges nv nd exit line c)
-  good_place exit line Done o = absurd o
   good_place exit line (Do a m is) o =
       let row = act_row nv nd a is in
       good_wide m (m + length row) m (m + act_width nv nd a)
@@ -148,13 +147,6 @@ module _ (nv nd : ℕ) where
       )
   good_place exit line (Close ps ds m is) o = (((omega arith, omega arith), tt), (tt, tt))
   good_place exit line (If (Ask a m) x y is) o = good_atom a (line m) m _ _
-  good_place exit line (If (Not c) x y is) o = absurd o
-  good_place exit line (If (Both c d) x y is) o = absurd o
-  good_place exit line (If (Either c d) x y is) o = absurd o
-  good_place exit line (Loop c n b is) o = absurd o
-  good_place exit line (Again c n b is) o = absurd o
-  good_place exit line (DoLoop c b is) o = absurd o
-  good_place exit line (DoAgain c b is) o = absurd o
   good_place exit line (Enter vs ws m is) o =
       let row = enter_row nv nd vs ws in let to = loc nv nd exit (opened is) in
       good_wide m (m + length row) m (m + enter_width nv nd vs ws) (chain (line m) row m to) (omega arith)
@@ -167,6 +159,7 @@ module _ (nv nd : ℕ) where
       let row = exit_row nv nd v vs d in let to = loc nv nd exit (opened is) in
       good_wide m (m + length row) m (m + exit_width nv nd v vs d) (chain (line m) row m to) (omega arith)
       (omega (arith, pred_least (length row))) (chain_within (line m) row m to, chain_order (line m) row m to)
+  good_place exit line _ o = absurd o
 
   stacked_le : (ps : List Items) (i e : ℕ) → Stacked nv nd i ps e → i ≤ e
   stacked_le [] i e h = omega (arith, h)

@@ -9,8 +9,8 @@ use Rattle.c_types.specs.declared.program.DataOp.{DataOp}
 use Rattle.c_types.specs.declared.program.Atom.{Atom}
 use Rattle.c_types.specs.declared.program.Atom.TheVariants.{Choice as ChoiceAtom, Known as KnownAtom, Ptr as PtrAtom}
 use Rattle.c_types.specs.declared.program.Atom.TheVariants.{Data as DataAtom}
-use Rattle.c_types.specs.Control.{Items, Done, Do, Close, If, Loop, Again, DoLoop, DoAgain, Enter, Leave, Exit, Ask}
-use Rattle.c_types.specs.Control.{Not, Both, Either, opened, from_exit}
+use Rattle.c_types.specs.Control.{Items, Done, Do, Close, If, Enter, Leave, Exit, Ask}
+use Rattle.c_types.specs.Control.{opened, from_exit}
 use Rattle.c_types.specs.Steps.{mark_of}
 use Rattle.c_cfg.specs.declared.graph.Instr.{Instr}
 use Rattle.c_cfg.specs.declared.graph.Instr.TheVariants.{Kill}
@@ -204,7 +204,6 @@ module _ (nv nd : ℕ) (E : List Edge) where
   pub place_row : (exit : ℕ) (line : ℕ → ℕ) (c : Items) → IsOpen nv nd c
       → AgreesOn E (place_edges nv nd exit line c) (mark_of c) (mark_of c + place_width nv nd c)
       → IsRow nv nd E Always line (loc nv nd exit) (mids_of nv nd) c
-  place_row exit line Done o h = absurd o
   place_row exit line (Do a m is) o h =
       let to = loc nv nd exit (opened (followed_by a is)) in
       let row = act_row nv nd a is in
@@ -221,13 +220,6 @@ module _ (nv nd : ℕ) (E : List Edge) where
         middle = refl;
       }
   place_row exit line (If (Ask a m) x y is) o h = atom_row a (line m) m _ _ h
-  place_row exit line (If (Not c) x y is) o h = absurd o
-  place_row exit line (If (Both c d) x y is) o h = absurd o
-  place_row exit line (If (Either c d) x y is) o h = absurd o
-  place_row exit line (Loop c n b is) o h = absurd o
-  place_row exit line (Again c n b is) o h = absurd o
-  place_row exit line (DoLoop c b is) o h = absurd o
-  place_row exit line (DoAgain c b is) o h = absurd o
   place_row exit line (Enter vs ws m is) o h =
       let row = enter_row nv nd vs ws in
       one_way (line m) row m (loc nv nd exit (opened is)) (filled_length row (enter_filled nv nd vs ws)) h
@@ -237,3 +229,4 @@ module _ (nv nd : ℕ) (E : List Edge) where
   place_row exit line (Exit v vs d m is) o h =
       let row = exit_row nv nd v vs d in
       one_way (line m) row m (loc nv nd exit (opened is)) (filled_length row (exit_filled nv nd v vs d)) h
+  place_row exit line _ o h = absurd o

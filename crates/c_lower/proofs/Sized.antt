@@ -13,8 +13,8 @@ use Rattle.c_types.specs.declared.program.DataRhs.{DataRhs}
 use Rattle.c_types.specs.declared.program.DataRhs.TheVariants.{Path as DataRhsPath, Known as DataRhsKnown}
 use Rattle.c_types.specs.declared.program.DataRhs.TheVariants.{Choice as DataRhsChoice}
 use Rattle.c_types.specs.declared.program.Act.{Act}
-use Rattle.c_types.specs.declared.program.Act.TheVariants.{SetPtr, SetData, Free as FreeAct, Error, Halt, Return, Break}
-use Rattle.c_types.specs.declared.program.Act.TheVariants.{Continue, Leave as LeaveAct}
+use Rattle.c_types.specs.declared.program.Act.TheVariants.{SetPtr, SetData, Free as FreeAct, Return}
+use Rattle.c_types.specs.declared.program.Act.TheVariants.{Leave as LeaveAct}
 use Rattle.c_types.specs.declared.program.PtrOp.{PtrOp}
 use Rattle.c_types.specs.declared.program.PtrOp.TheVariants.{Path as OpPath, Null as OpNull}
 use Rattle.c_types.specs.declared.program.DataOp.{DataOp}
@@ -125,12 +125,10 @@ module _ (nv nd : ℕ) where
   -- Assignments to data
 
   data_var_long : (x : ℕ) (from : DataRhs) → length (data_var_row nv nd x from) ≡ data_var_size from
-  data_var_long x (DataRhsPath (DataVar y)) = refl
   data_var_long x (DataRhsPath (DataField base f)) =
       let e = length-append (data_loads nv x (DataField base f)) (ends (used nv base.fields) []) in let l =
       data_long nv x (DataField base f) in let u = one_end nv base.fields in omega (arith, e, l, u)
-  data_var_long x (DataRhsKnown k) = refl
-  data_var_long x DataRhsChoice = refl
+  data_var_long x _ = refl
 
   -- the reads of the left base, the store, and the end
   store_long : (base : Path) (i : Instr) (es : List Link) (m : ℕ) → length es ≡ m
@@ -197,12 +195,9 @@ module _ (nv nd : ℕ) where
         let e = length-append (loads nv q.var q.fields)
         (One (Free (holder nv q.var q.fields)) ∷ ends (used nv q.fields) []) in let l = loads_long nv q.var q.fields in
         let u = one_end nv q.fields in alone (FreeAct q) _ (omega (arith, e, l, u))
-    act-sized Error = refl
-    act-sized Halt = refl
     act-sized (LeaveAct f value) = leave_long (slice_get funcs f) f value
     act-sized (Return operand) = alone (Return operand) _ (return_long operand)
-    act-sized Break = refl
-    act-sized Continue = refl
+    act-sized _ = refl
 
   -- Calls
 
@@ -241,12 +236,9 @@ module _ (nv nd : ℕ) where
       ∙ sym (end_some (length b.fields) (data_op_size r))
   data_end (DataOpPath (DataVar x)) (DataOpPath (DataField b f)) = some_end (used (nv + 1) b.fields) (nd + 1) []
       ∙ sym (end_last (length b.fields) 0)
-  data_end (DataOpPath (DataVar x)) (DataOpPath (DataVar y)) = refl
-  data_end (DataOpPath (DataVar x)) (DataOpKnown k) = refl
   data_end (DataOpKnown k) (DataOpPath (DataField b f)) = some_end (used (nv + 1) b.fields) (nd + 1) []
       ∙ sym (end_last (length b.fields) 0)
-  data_end (DataOpKnown k) (DataOpPath (DataVar y)) = refl
-  data_end (DataOpKnown k) (DataOpKnown j) = refl
+  data_end _ _ = refl
 
   pub atom-sized : (a : Atom) → atom_width nv nd a ≡ atom_size a
   atom-sized ChoiceAtom = refl

@@ -1,7 +1,6 @@
 -- The places of numbered items take consecutive locations, and the items begin at their first one.
 use Rattle.std.proofs.Common.{◌≡◌, ℕ, zero, suc, ◌+◌, ◌<◌, List, [], ◌∷◌, ◌++◌, refl, sym, ap, ◌∙◌, subst, arith}
-use Rattle.c_types.specs.declared.program.Atom.TheVariants.{Choice as ChoiceAtom, Known as KnownAtom, Ptr as PtrAtom}
-use Rattle.c_types.specs.declared.program.Atom.TheVariants.{Data as DataAtom}
+use Rattle.c_types.specs.declared.program.Atom.TheVariants.{Choice as ChoiceAtom}
 use Rattle.c_types.specs.Control.{Items, Done, Do, Close, If, Loop, Again, DoLoop, DoAgain, Enter, Leave, Exit, Test}
 use Rattle.c_types.specs.Control.{Ask, Not, Both, Either, ask, open_before}
 use Rattle.c_types.specs.Steps.{mark_of}
@@ -9,6 +8,10 @@ use Rattle.c_cfg.specs.Places.{test_places, places}
 use Rattle.c_lower.specs.inner.Numbering.{act_width, enter_width, leave_width, exit_width, test_width, width}
 use Rattle.c_lower.specs.inner.Numbering.{number_test, number, loc, place_width}
 use Rattle.c_lower.specs.inner.Emitting.{first_of}
+
+pub first_wide : (w i k : ℕ) → 0 < w → first_of w i k ≡ i
+first_wide zero i k h = absurd (omega arith)
+first_wide (suc w) i k h = refl
 
 module _ (nv nd : ℕ) where
   -- an opened list that begins with a step
@@ -105,18 +108,12 @@ module _ (nv nd : ℕ) where
       let w = exit_width nv nd v vs d in
       (tt, refl, stacked_to _ (i + w) (i + w + width nv nd is) _ (omega arith) (stacked is (i + w) r))
 
-  first_wide : (w i k : ℕ) → 0 < w → first_of w i k ≡ i
-  first_wide zero i k h = absurd (omega arith)
-  first_wide (suc w) i k h = refl
-
   test_wide : (c : Test) → 0 < test_width nv nd c
-  test_wide (Ask ChoiceAtom m) = omega arith
-  test_wide (Ask (KnownAtom b) m) = omega arith
-  test_wide (Ask (PtrAtom l r e) m) = omega arith
-  test_wide (Ask (DataAtom l r e) m) = omega arith
   test_wide (Not c) = test_wide c
   test_wide (Both c d) = omega (arith, test_wide c)
   test_wide (Either c d) = omega (arith, test_wide c)
+  test_wide (Ask ChoiceAtom m) = omega arith
+  test_wide _ = omega arith
 
   pub loc_ask : (exit i : ℕ) (c : Test) (x y r : Items) → loc nv nd exit (ask (number_test nv nd c i) x y r) ≡ i
   loc_ask exit i (Ask a m) x y r = refl

@@ -6,12 +6,11 @@ use Rattle.fore_base.specs.Lists.{Every}
 use Rattle.c_types.specs.declared.program.Atom.{Atom}
 use Rattle.c_types.specs.declared.program.Atom.TheVariants.{Choice as ChoiceAtom, Known as KnownAtom, Ptr as PtrAtom}
 use Rattle.c_types.specs.declared.program.Atom.TheVariants.{Data as DataAtom}
-use Rattle.c_types.specs.Control.{Items, Done, Do, Close, If, Loop, Again, DoLoop, DoAgain, Enter, Leave, Exit, Ask}
-use Rattle.c_types.specs.Control.{Not, Both, Either}
-use Rattle.c_cfg.specs.declared.graph.PtrArg.TheVariants.{Var as PtrVar, Null as PtrNull}
+use Rattle.c_types.specs.Control.{Items, Do, Close, If, Enter, Leave, Exit, Ask}
+use Rattle.c_cfg.specs.declared.graph.PtrArg.TheVariants.{Null as PtrNull}
 use Rattle.c_cfg.specs.declared.graph.Instr.{Instr}
-use Rattle.c_cfg.specs.declared.graph.Instr.TheVariants.{CopyPtr, LoadPtr, StorePtr, StoreConst, New, Free, Kill}
-use Rattle.c_cfg.specs.declared.graph.Instr.TheVariants.{CopyData, LoadData, StoreData, TestPtr, TestData, Choose, Stop}
+use Rattle.c_cfg.specs.declared.graph.Instr.TheVariants.{CopyPtr, New}
+use Rattle.c_cfg.specs.declared.graph.Instr.TheVariants.{Choose}
 use Rattle.c_cfg.specs.declared.graph.Edge.{Edge}
 use Rattle.c_cfg.specs.Graphs.{has_choice, is_none_or, is_choose, may_have, HasItsChoice}
 use Rattle.c_cfg.specs.declared.link.Link.{Link}
@@ -64,23 +63,16 @@ module _ (nv nd : ℕ) where
       (plain_fit _ (cmp_plain nv nd l r)) (λ b. refl) (plain_fit _ (ends_plain _ _))
 
   place_told : (exit : ℕ) (line : ℕ → ℕ) (c : Items) → Told (place_edges nv nd exit line c)
-  place_told exit line Done = tt
   place_told exit line (Do a m is) = chain_told (line m) (act_row nv nd a is) m _ (act_fits nv nd a is)
   place_told exit line (Close ps ds m is) = (refl, tt)
   place_told exit line (If (Ask a m) x y is) = atom_told a (line m) m _ _
-  place_told exit line (If (Not c) x y is) = tt
-  place_told exit line (If (Both c d) x y is) = tt
-  place_told exit line (If (Either c d) x y is) = tt
-  place_told exit line (Loop c n b is) = tt
-  place_told exit line (Again c n b is) = tt
-  place_told exit line (DoLoop c b is) = tt
-  place_told exit line (DoAgain c b is) = tt
   place_told exit line (Enter vs ws m is) =
       chain_told (line m) (enter_row nv nd vs ws) m _ (plain_fit _ (enter_plain nv nd vs ws))
   place_told exit line (Leave v vs a m is) =
       chain_told (line m) (leave_row nv nd v vs a) m _ (plain_fit _ (leave_plain nv nd v vs a))
   place_told exit line (Exit v vs d m is) =
       chain_told (line m) (exit_row nv nd v vs d) m _ (plain_fit _ (exit_plain nv nd v vs d))
+  place_told exit line _ = tt
 
   pub all_told : (exit : ℕ) (line : ℕ → ℕ) (ps : List Items) → Told (all_edges nv nd exit line ps)
   all_told exit line [] = tt
@@ -94,21 +86,10 @@ none_told x None h = refl
 none_told x (Some y) h = absurd (true≢false h)
 
 choose_told : (i : Instr) (o : Option ℕ) → has_choice o ≡ is_choose i → may_have i o ≡ true
-choose_told (CopyPtr x (PtrVar y)) o h = rw h refl
 choose_told (CopyPtr x PtrNull) o h = none_told 0 o h
-choose_told (LoadPtr x y f) o h = rw h refl
-choose_told (StorePtr x f y) o h = rw h refl
-choose_told (StoreConst x f v) o h = rw h refl
 choose_told (New x shape) o h = none_told 1 o h
-choose_told (Free x) o h = rw h refl
-choose_told (Kill ps ds) o h = rw h refl
-choose_told (CopyData x y) o h = rw h refl
-choose_told (LoadData x y f) o h = rw h refl
-choose_told (StoreData x f y) o h = rw h refl
-choose_told (TestPtr l r e) o h = rw h refl
-choose_told (TestData l r e) o h = rw h refl
 choose_told (Choose x) o h = h
-choose_told (Stop e) o h = rw h refl
+choose_told _ o h = rw h refl
 
 pub all_have : (es : List Edge) → Told es → Every HasItsChoice es
 all_have [] h = tt
