@@ -12,11 +12,9 @@ use Rattle.c_types.specs.Steps.{without}
 
 set_twice : {A : Type 0} (xs : List A) (m n : ℕ) (v : A) → slice_set (slice_set xs m v) n v
     ≡ slice_set (slice_set xs n v) m v
-set_twice [] m n v = refl
-set_twice (x ∷ xs) zero zero v = refl
-set_twice (x ∷ xs) zero (suc n) v = refl
-set_twice (x ∷ xs) (suc m) zero v = refl
 set_twice (x ∷ xs) (suc m) (suc n) v = ap (λ ys. x ∷ ys) (set_twice xs m n v)
+set_twice (x ∷ xs) zero zero v = refl
+set_twice _ _ _ v = refl
 
 pub set_insert : {A : Type 0} (xs : List A) (n : ℕ) (ms : List ℕ) (v : A) → set_each xs (insert n ms) v
     ≡ set_each (slice_set xs n v) ms v

@@ -2,15 +2,13 @@
 use Rattle.std.proofs.Common.{◌≡◌, ℕ, List, [], ◌∷◌, Err, ap}
 use Rattle.fore_base.specs.declared.fault.Fault.{Fault}
 use Rattle.fore_base.specs.declared.store.Value.{Value}
-use Rattle.fore_base.specs.declared.store.Value.TheVariants.{Null, Uninit, Dangling, Cell}
+use Rattle.fore_base.specs.declared.store.Value.TheVariants.{Null}
 use Rattle.fore_base.specs.declared.store.Store.{Store}
 use Rattle.fore_base.specs.Stores.{onward, load, store_at, write_from}
 
 store_fails : (s : Store) (v w : Value) (f : ℕ) (k : Fault) → load s v f ≡ Err k → store_at s v f w ≡ Err k
 store_fails s Null w f k e = cc
-store_fails s Uninit w f k e = cc
-store_fails s Dangling w f k e = cc
-store_fails s (Cell n) w f k e = cc
+store_fails s _ w f k e = cc
 
 pub write_fails : (s : Store) (v w : Value) (f : ℕ) (gs : List ℕ) (k : Fault) → load s v f ≡ Err k
     → write_from s v f gs w ≡ Err k

@@ -3,11 +3,11 @@ use Rattle.std.proofs.Common.{◌≡◌, ◌⊎◌, inl, inr, ◌<◌, ◌≤◌
 use Rattle.std.proofs.Common.{length, slice_get, get_or, Some, refl, sym, ap, subst, arith}
 use Rattle.std.proofs.lemmas.Bool.{false_from_ne_true, true≢false}
 use Rattle.std.proofs.lemmas.Option.{none-some, same_Some}
-use Rattle.fore_base.specs.Lists.{Every}
 use Rattle.fore_base.specs.Marks.{MarksOf}
 use Rattle.fore_base.proofs.ListLemmas.{every_in}
 use Rattle.c_calls.specs.Calls.{AreCalls, Leads, at_once, through, called_by, leads_within}
 use Rattle.c_calls.proofs.FewCalls.{leads_few, within_leads}
+use Rattle.c_calls.proofs.Places.{every_called}
 use Rattle.c_callees.specs.Leading.{AreLeading}
 
 -- a test that is exact
@@ -38,14 +38,9 @@ module _ (calls : List (List ℕ)) where
   leads_marked marks f g m = leads_tested (get_or marks f false) f g (m.only f) (m.each f)
 
   -- what is called by f
-  called_every : (P : ℕ → Type 0) (rest : List (List ℕ)) (f : ℕ) → Every (Every P) rest → Every P (called_by rest f)
-  called_every P [] f h = tt
-  called_every P (c ∷ rest) zero h = h.0
-  called_every P (c ∷ rest) (suc f) h = called_every P rest f h.1
-
   leads_inside : AreCalls calls → (f g : ℕ) → Leads calls f g → g < length calls
   leads_inside are f g (at_once i) =
-      every_in (λ x. x < length calls) (called_by calls f) g (called_every (λ x. x < length calls) calls f are) i
+      every_in (λ x. x < length calls) (called_by calls f) g (every_called (λ x. x < length calls) calls f are) i
   leads_inside are f g (through h i l) = leads_inside are h g l
 
   -- a number past the functions is led to by none

@@ -2,7 +2,7 @@
 use Rattle.std.proofs.Common.{◌≡◌, ℕ, suc, ◌+◌, Bool, true, false, ◌||◌, cond, List, [], ◌∷◌, ◌++◌, map}
 use Rattle.std.proofs.Common.{length, Option, Some, None, append-nil, append_assoc, refl, sym, ap, subst, ◌∙◌, arith}
 use Rattle.std.proofs.Math.Bool.{or-false, or_assoc}
-use Rattle.std.proofs.lemmas.List.{length-append, length-map}
+use Rattle.std.proofs.lemmas.List.{length_push, length-append, length-map}
 use Rattle.std.specs.Cmp.Lexicographic.{bytes_decides}
 use Rattle.c_ast.specs.declared.items.Field.{Field}
 use Rattle.c_ast.specs.declared.items.Head.{Head}
@@ -73,9 +73,6 @@ alike_names names earlier (n ∷ ns) h =
     append_assoc earlier (n.text ∷ []) (map text_of ns) in
     rw (← e) (alike_names (with_name names n.text) (earlier ++ n.text ∷ []) ns (alike_more names earlier n.text h))
 
-length_one : (xs : List Text) (y : Text) → length (xs ++ y ∷ []) ≡ length xs + 1
-length_one xs y = length-append xs (y ∷ [])
-
 length_names : (xs : List Text) (ns : List Name) → length (xs ++ map text_of ns) ≡ length xs + length ns
 length_names xs ns = length-append xs (map text_of ns) ∙ ap (λ n. length xs + n) (length-map ns text_of)
 
@@ -89,11 +86,8 @@ record Keeps (k : kept.Seen) (s : Seen) : Type 0 where
   function_count : k.function_count ≡ length s.functions
 
 main_after : (i : Item) (main : Bool) (s : Seen) → main ≡ s.main → (main || is_main_item i) ≡ (seen_after s i).main
-main_after (item.Struct at name fields) main s e = or-false main ∙ e
-main_after (item.Enum at name values) main s e = or-false main ∙ e
-main_after (item.Proto outer head) main s e = or-false main ∙ e
 main_after (item.Function head body) main s e = ap (λ b. b || is_main head) e
-main_after (item.Declare d) main s e = or-false main ∙ e
+main_after _ main s e = or-false main ∙ e
 
 struct_keeps : (name : Name) (fields : Option (List Field)) (k : kept.Seen) (s : Seen) → Alike k.structs s.structs
     → k.count ≡ length s.structs →
@@ -101,7 +95,7 @@ struct_keeps : (name : Name) (fields : Option (List Field)) (k : kept.Seen) (s :
     × ((kept_structs k name fields).count ≡ length (structs_seen s.structs name fields))
 struct_keeps name None k s h e = (h, e)
 struct_keeps name (Some fields) k s h e =
-    (alike_more k.structs s.structs name.text h, omega (arith, length_one s.structs name.text, e))
+    (alike_more k.structs s.structs name.text h, omega (arith, length_push s.structs name.text, e))
 
 record SameRest (k l : kept.Seen) : Type 0 where
   enums : l.enums ≡ k.enums
@@ -133,15 +127,6 @@ keeps_after (item.Enum at name values) k s h = record {
   functions = h.functions;
   function_count = h.function_count;
 }
-keeps_after (item.Proto outer head) k s h =
-    record {
-      structs = h.structs;
-      count = h.count;
-      enums = h.enums;
-      values = h.values;
-      functions = h.functions;
-      function_count = h.function_count;
-    }
 keeps_after (item.Function head body) k s h =
     record {
       structs = h.structs;
@@ -149,9 +134,9 @@ keeps_after (item.Function head body) k s h =
       enums = h.enums;
       values = h.values;
       functions = alike_more k.functions s.functions head.name.text h.functions;
-      function_count = omega (arith, length_one s.functions head.name.text, h.function_count);
+      function_count = omega (arith, length_push s.functions head.name.text, h.function_count);
     }
-keeps_after (item.Declare d) k s h =
+keeps_after _ k s h =
     record {
       structs = h.structs;
       count = h.count;

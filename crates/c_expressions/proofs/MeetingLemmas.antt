@@ -1,6 +1,6 @@
 -- The first fault so far, over lists of places, and what each kind of place adds.
 use Rattle.std.proofs.Common.{◌≡◌, ℕ, Bool, true, false, not, ◌&&◌, ◌||◌, nat_eq, List, [], ◌∷◌, ◌++◌, Option, Some}
-use Rattle.std.proofs.Common.{None, refl, sym, ap, ◌∙◌}
+use Rattle.std.proofs.Common.{refl, sym, ap, ◌∙◌}
 use Rattle.std.specs.Prelude.{is_none, is_some, slice_get}
 use Rattle.fore_base.specs.declared.limits.TheConstants.{VARIABLES, STATEMENTS}
 use Rattle.fore_base.specs.declared.place.Place.{Place}
@@ -134,13 +134,8 @@ module _ (g : Globals) (found : Option TypeFault) where
       ≡ noted_when (is_data_path m) (Rule 9 a.at)
       (noted_when (lacks_field g m a.field.text) (Rule 2 a.field.at) found)
   noted-Follows (meaning.Pointer p (Some shape)) a = one g found _ _ _ (breaching.at-Follows-Pointer g p shape a)
-  noted-Follows (meaning.Pointer p None) a = none g found _ (breaching.at-Follows-Undefined g p a)
   noted-Follows (meaning.Datum d) a = one g found _ true (Rule 9 a.at) (breaching.at-Follows-Datum g d a)
-  noted-Follows (meaning.Known k) a = none g found _ (breaching.at-Follows-Known g k a)
-  noted-Follows meaning.Zero a = none g found _ (breaching.at-Follows-Zero g a)
-  noted-Follows meaning.Null a = none g found _ (breaching.at-Follows-Null g a)
-  noted-Follows meaning.Call a = none g found _ (breaching.at-Follows-Call g a)
-  noted-Follows meaning.Broken a = none g found _ (breaching.at-Follows-Broken g a)
+  noted-Follows _ a = none g found _ refl
 
   pub noted-Measures : (star : Place) (m : Meaning) → noted g found (Measures star m)
       ≡ noted_when (is_datum m) (Rule 9 star) found

@@ -7,7 +7,7 @@ use Rattle.fore_base.specs.declared.store.Store.{Store}
 use Rattle.c_types.specs.declared.mode.MallocMode.{MallocMode}
 use Rattle.c_types.specs.declared.outcome.Outcome.{Outcome}
 use Rattle.c_types.specs.declared.outcome.Outcome.TheVariants.{Ended as RunEnded, Fault as RunFault, StillRunning}
-use Rattle.c_types.specs.Control.{Items, Done, Do, Close, If, Loop, Again, DoLoop, DoAgain, Enter, Leave, Exit, opened}
+use Rattle.c_types.specs.Control.{Items, Done, opened}
 use Rattle.c_types.specs.Control.{start_of}
 use Rattle.c_types.specs.Steps.{Goes, Stops, Faults, turn_of, takes, mark_of}
 use Rattle.c_types.specs.Steps as steps
@@ -23,43 +23,16 @@ use Rattle.c_machine.specs.inner.Going.{going}
 module _ (shapes : List Shape) (mode : MallocMode) where
   pub ends_at : (is : Items) (step : ℕ) → is_done is ≡ true → at_end is step ≡ RunEnded step
   ends_at Done step e = refl
-  ends_at (Do a m is) step e = absurd (true≢false (sym e))
-  ends_at (Close ps ds m is) step e = absurd (true≢false (sym e))
-  ends_at (If c x y is) step e = absurd (true≢false (sym e))
-  ends_at (Loop c n b is) step e = absurd (true≢false (sym e))
-  ends_at (Again c n b is) step e = absurd (true≢false (sym e))
-  ends_at (DoLoop c b is) step e = absurd (true≢false (sym e))
-  ends_at (DoAgain c b is) step e = absurd (true≢false (sym e))
-  ends_at (Enter vs ws m is) step e = absurd (true≢false (sym e))
-  ends_at (Leave v vs a m is) step e = absurd (true≢false (sym e))
-  ends_at (Exit v vs d m is) step e = absurd (true≢false (sym e))
+  ends_at _ step e = absurd (true≢false (sym e))
 
   pub runs_on : (is : Items) (step : ℕ) → is_done is ≡ false → at_end is step ≡ StillRunning
   runs_on Done step e = absurd (true≢false e)
-  runs_on (Do a m is) step e = refl
-  runs_on (Close ps ds m is) step e = refl
-  runs_on (If c x y is) step e = refl
-  runs_on (Loop c n b is) step e = refl
-  runs_on (Again c n b is) step e = refl
-  runs_on (DoLoop c b is) step e = refl
-  runs_on (DoAgain c b is) step e = refl
-  runs_on (Enter vs ws m is) step e = refl
-  runs_on (Leave v vs a m is) step e = refl
-  runs_on (Exit v vs d m is) step e = refl
+  runs_on _ step e = refl
 
   pub done_ends : (n step : ℕ) (is : Items) (s : Store) (cs : List ℕ) (used : ℕ) → is_done is ≡ true
       → going shapes mode (suc n) step is s cs used ≡ RunEnded step
   done_ends n step Done s cs used e = refl
-  done_ends n step (Do a m is) s cs used e = absurd (true≢false (sym e))
-  done_ends n step (Close ps ds m is) s cs used e = absurd (true≢false (sym e))
-  done_ends n step (If c x y is) s cs used e = absurd (true≢false (sym e))
-  done_ends n step (Loop c m b is) s cs used e = absurd (true≢false (sym e))
-  done_ends n step (Again c m b is) s cs used e = absurd (true≢false (sym e))
-  done_ends n step (DoLoop c b is) s cs used e = absurd (true≢false (sym e))
-  done_ends n step (DoAgain c b is) s cs used e = absurd (true≢false (sym e))
-  done_ends n step (Enter vs ws m is) s cs used e = absurd (true≢false (sym e))
-  done_ends n step (Leave v vs a m is) s cs used e = absurd (true≢false (sym e))
-  done_ends n step (Exit v vs d m is) s cs used e = absurd (true≢false (sym e))
+  done_ends n step _ s cs used e = absurd (true≢false (sym e))
 
   -- the rest of a run after a choice
   abbrev pub next_of : ℕ → ℕ → Items → Store → ℕ → List ℕ → ℕ → Outcome
@@ -70,16 +43,7 @@ module _ (shapes : List Shape) (mode : MallocMode) where
   pub steps_on : (n step : ℕ) (is : Items) (s : Store) (cs : List ℕ) (used : ℕ) → is_done is ≡ false
       → going shapes mode (suc n) step is s cs used ≡ supply (takes mode is) cs (step + 1) used (next_of n step is s)
   steps_on n step Done s cs used e = absurd (true≢false e)
-  steps_on n step (Do a m is) s cs used e = refl
-  steps_on n step (Close ps ds m is) s cs used e = refl
-  steps_on n step (If c x y is) s cs used e = refl
-  steps_on n step (Loop c m b is) s cs used e = refl
-  steps_on n step (Again c m b is) s cs used e = refl
-  steps_on n step (DoLoop c b is) s cs used e = refl
-  steps_on n step (DoAgain c b is) s cs used e = refl
-  steps_on n step (Enter vs ws m is) s cs used e = refl
-  steps_on n step (Leave v vs a m is) s cs used e = refl
-  steps_on n step (Exit v vs d m is) s cs used e = refl
+  steps_on n step _ s cs used e = refl
 
   pub go_going : (n step : ℕ) (is : Items) (s : Store) (cs : List ℕ) (used : ℕ)
       → go shapes mode own_line at_end n step is s cs used ≡ going shapes mode n step (opened is) s cs used

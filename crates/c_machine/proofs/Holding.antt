@@ -29,8 +29,9 @@ use Rattle.c_types.specs.Losses.{is_cell, hold_cell, vars_hold}
 use Rattle.c_machine.specs.declared.items.Item.{Item}
 use Rattle.c_machine.specs.declared.items.Item.TheVariants.{Block}
 use Rattle.c_machine.specs.declared.items.Body.{Body}
-use Rattle.c_machine.specs.Pending.{in_order, before, onto, pending}
+use Rattle.c_machine.specs.Pending.{in_order, before, pending}
 use Rattle.c_machine.specs.inner.Losing.{some_true, held_called, held_step, held_by, held_within, held_among}
+use Rattle.c_machine.proofs.Stacks.{onto_push}
 
 or_assoc : (a b c : Bool) → (a || b) || c ≡ a || (b || c)
 or_assoc true b c = refl
@@ -38,8 +39,7 @@ or_assoc false b c = refl
 
 or_swap : (a b c : Bool) → a || (b || c) ≡ b || (a || c)
 or_swap true true c = refl
-or_swap true false c = refl
-or_swap false b c = refl
+or_swap _ _ c = refl
 
 -- Variables in any order
 
@@ -145,15 +145,12 @@ module _ (vs : List Value) where
         → LayerHolds (map-Stmt ((s : Stmt) × HoldsAs s) Stmt (λ e. e.0) y)
     layer_holds (Do-F a line) r =
         act_composed (λ f. Holds f false) (λ b m q. refl) (λ g b m q. refl) funcs a line r
-    layer_holds (Branch-F c x y) r = refl
-    layer_holds (While-F c b) r = refl
-    layer_holds (DoWhile-F c b) r = refl
-    layer_holds (For-F c n b) r = refl
     layer_holds (Group-F b ps ds m) r =
         each_holds b (closes ps ds m r)
         ∙ both_hold (closes ps ds m) r (some_true (map holding (bare b))) (hold_cell vs ps)
         (hold_closes vs ps ds m r)
     layer_holds (Call-F f args to' line) r = call_holds (slice_get funcs f) args to' line r
+    layer_holds _ r = refl
 
     stmt_holds : (s : Stmt) → HoldsAs s
     stmt_holds = ind-Stmt HoldsAs (λ x y is.
@@ -246,12 +243,8 @@ pub ruleset calls = (holds_first)
 
 -- The stack
 
-onto_last : (r : Items) (xs : List Item) (x : Item) → onto r (xs ++ x ∷ []) ≡ before x (onto r xs)
-onto_last r [] x = refl
-onto_last r (y ∷ ys) x = onto_last (before y r) ys x
-
 pub pending_last : (xs : List Item) (x : Item) → pending (xs ++ x ∷ []) ≡ before x (pending xs)
-pending_last xs x = onto_last _ xs x
+pending_last xs x = onto_push _ xs x
 
 pub ruleset leaves = (hold_closes, pending_last)
 

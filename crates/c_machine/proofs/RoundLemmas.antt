@@ -69,13 +69,10 @@ module _ (funcs : List Func) (inside : List Stmt → Items → Items) (ended : L
   layer_dies : (y : Stmt-F ((s : Stmt) × DiesAs s)) → LayerDies (map-Stmt ((s : Stmt) × DiesAs s) Stmt (λ e. e.0) y)
   layer_dies (Do-F a line) r s =
       act_composed (λ f. Dies f (λ t. t)) (λ b m q t. refl) (λ g b m q t. refl) funcs a line r s
-  layer_dies (Branch-F c x y) r s = refl
-  layer_dies (While-F c b) r s = refl
-  layer_dies (DoWhile-F c b) r s = refl
-  layer_dies (For-F c n b) r s = refl
   layer_dies (Group-F b ps ds m) r s =
       each_dies b (closes ps ds m r) s ∙ leaving_closes ps ds m r (ends_in_each (map dying (bare b)) s)
   layer_dies (Call-F f args to' line) r s = call_dies (slice_get funcs f) args to' line r s
+  layer_dies _ r s = refl
 
   stmt_dies : (s : Stmt) → DiesAs s
   stmt_dies = ind-Stmt DiesAs (λ x y is.
