@@ -1,7 +1,6 @@
 -- The roots that are reached follow from the signatures of the trees alone.
-use Rattle.std.proofs.Common.{◌≡◌, inl, inr, ℕ, zero, suc}
+use Rattle.std.proofs.Common.{◌≡◌, inl, inr, ℕ}
 use Rattle.std.proofs.Common.{List, [], ◌∷◌, refl, sym, ap, subst, ◌∙◌, Some, slice_get}
-use Rattle.std.proofs.lemmas.Option.{none-some, same_Some}
 use Rattle.fore_base.specs.Lists.{IsIn, Paired}
 use Rattle.fore_base.proofs.ListLemmas.{in_map}
 use Rattle.ta_core.specs.declared.tree.Tree.{Tree}
@@ -15,6 +14,7 @@ use Rattle.fa_core.specs.Canonical.{LeadsBack, RefersTo, var_roots}
 use Rattle.fa_core.specs.Ways.{Way, ways, to_root, mark}
 use Rattle.fa_back.specs.Reached.{RootReached, by_var, by_tree, by_way, IsMarkAt, SignReached, from_there, down_to}
 use Rattle.fa_back.specs.Reached.{back_to, reach_to, IsSignedBy}
+use Rattle.fa_back.proofs.Pairs.{paired_at, paired_back}
 use Rattle.fa_back.proofs.RootMarks.{in_to_root, to_root_in, back_any, any_of_back, mark_in, in_mark, way_led, led_way}
 use Rattle.fa_back.proofs.RootMarks.{reach_in_mark, mark_in_reach}
 
@@ -52,22 +52,6 @@ var_roots_in (At k ∷ vs) r (inr h) = inr (var_roots_in vs r h)
 -- Trees and their signatures.
 
 module _ (bs : List BoxFace) where
-  signed_at : (ts : List Tree) (ss : List Signature) (j : ℕ) (t : Tree) → Paired (IsSignedBy bs) ts ss
-      → slice_get ts j ≡ Some t → (s : Signature) × (slice_get ss j ≡ Some s) × IsSignedBy bs t s
-  signed_at [] ss j t p e = absurd (none-some t e)
-  signed_at (u ∷ ts) [] j t p e = absurd p
-  signed_at (u ∷ ts) (s ∷ ss) zero t p e =
-      (s, refl, subst (λ (z : Tree). IsSignedBy bs z s) (same_Some u t e) p.0)
-  signed_at (u ∷ ts) (s ∷ ss) (suc j) t p e = signed_at ts ss j t p.1 e
-
-  tree_signed : (ts : List Tree) (ss : List Signature) (j : ℕ) (s : Signature) → Paired (IsSignedBy bs) ts ss
-      → slice_get ss j ≡ Some s → (t : Tree) × (slice_get ts j ≡ Some t) × IsSignedBy bs t s
-  tree_signed ts [] j s p e = absurd (none-some s e)
-  tree_signed [] (z ∷ ss) j s p e = absurd p
-  tree_signed (t ∷ ts) (z ∷ ss) zero s p e =
-      (t, refl, subst (λ (y : Signature). IsSignedBy bs t y) (same_Some z s e) p.0)
-  tree_signed (t ∷ ts) (z ∷ ss) (suc j) s p e = tree_signed ts ss j s p.1 e
-
   module _ (vs : List Target) (ts : List Tree) (ss : List Signature) (signed : Paired (IsSignedBy bs) ts ss) where
     abbrev Signed : ℕ → Type 0
     Signed = SignReached ss (var_roots vs)
@@ -78,14 +62,14 @@ module _ (bs : List BoxFace) where
     -- the mark of a root to which the tree of component j refers
     mark_at : (j : ℕ) (t : Tree) (k : ℕ) → slice_get ts j ≡ Some t → RefersTo t k → IsMarkAt ss j (mark bs (ways t) k)
     mark_at j t k e h =
-        let s = signed_at ts ss j t signed e in
+        let s = paired_at (IsSignedBy bs) ts ss j t signed e in
         (s.0, s.1, subst (λ (ms : List RefMark). IsIn (mark bs (ways t) k) ms) s.2 (mark_in bs t k h))
 
     -- and a mark is one of a root to which the tree refers
     of_mark : (j : ℕ) (m : RefMark) → IsMarkAt ss j m → (t : Tree) × (k : ℕ) × (slice_get ts j ≡ Some t) × RefersTo t k
         × (m ≡ mark bs (ways t) k)
     of_mark j m h =
-        let t = tree_signed ts ss j h.0 signed h.1 in
+        let t = paired_back (IsSignedBy bs) ts ss j h.0 signed h.1 in
         let k = in_mark bs t.0 m (subst (λ (ms : List RefMark). IsIn m ms) (sym t.2) h.2) in
         (t.0, k.0, t.1, k.1, k.2)
 

@@ -1,5 +1,5 @@
 -- A root whose cell is reached by hops is met.
-use Rattle.std.proofs.Common.{◌≡◌, ◌⊎◌, inl, inr, ℕ, Bool, true, false, ◌&&◌, List, [], ◌∷◌}
+use Rattle.std.proofs.Common.{◌≡◌, ◌⊎◌, inl, inr, ℕ, Bool, true, false, ◌&&◌, List, [], ◌∷◌, ◌++◌}
 use Rattle.std.proofs.Common.{map, refl, sym, ap, subst, ◌∙◌, Option, Some, None}
 use Rattle.std.proofs.lemmas.Option.{none-some, same_Some}
 use Rattle.fore_base.specs.Lists.{IsIn, IsDistinct}
@@ -112,10 +112,34 @@ module _ (bs : List BoxFace) (Met : ℕ → Type 0) where
     up_end_way (leaf (At k)) u = (record { root = k; steps = [] }, rw (ways_leaf k) (inl refl), u, refl)
 
   module _ (k : ℕ) (s : Site) (u : WayUp s.here) (here : IsIn k (refs s.here)) where
+    -- one of the ways, of a root that is met, leads to root k, which is one of these roots
+    abbrev LedWay : List Way → List ℕ → Type 0
+    LedWay ws rs = ((w : Way) × IsIn w ws × Met w.root × IsIn k (led_to bs w.steps)) × IsIn k rs
+
+    -- so does one with the slot at its top
+    abbrev LedPair : List (Slot × Way) → List ℕ → Type 0
+    LedPair ps rs = ((p : Slot × Way) × IsIn p ps × Met p.1.root × IsIn k (led_to bs p.1.steps)) × IsIn k rs
+
+    -- a way through the slot y, or one through a later slot
+    led_slot : (y : Slot) (ws : List Way) (later : List (Slot × Way)) (xs rs : List ℕ) → LedWay ws xs ⊎ LedPair later rs
+        → LedPair (map (λ (w : Way). (y, w)) ws ++ later) (xs ++ rs)
+    led_slot y ws later xs rs (inl w) = (
+      (
+        (y, w.0.0),
+        in_left (y, w.0.0) (map (λ (v : Way). (y, v)) ws) later (in_map (λ (v : Way). (y, v)) w.0.0 ws w.0.1),
+        w.0.2,
+        w.0.3,
+      ),
+      in_left k xs rs w.1,
+    )
+    led_slot y ws later xs rs (inr p) = (
+      (p.0.0, in_right p.0.0 (map (λ (v : Way). (y, v)) ws) later p.0.1, p.0.2, p.0.3),
+      in_right k xs rs p.1,
+    )
+
     mutual
       -- a way back to a cell in the tree leads, from the whole tree, to each root to which the cell's tree refers
-      pub led_tree : (a : Above) (n : Node) → IsIn s (tree_sites a n)
-          → ((w : Way) × IsIn w (ways (bare n)) × Met w.root × IsIn k (led_to bs w.steps)) × IsIn k (refs n)
+      pub led_tree : (a : Above) (n : Node) → IsIn s (tree_sites a n) → LedWay (ways (bare n)) (refs n)
       led_tree a (node c h ds ps) (inl e) =
           let uu : WayUp (node c h ds ps) = subst (λ (z : Site). WayUp z.here) e u in
           let kk : IsIn k (refs_of ps) = subst (λ (z : Site). IsIn k (refs z.here)) e here in
@@ -132,59 +156,21 @@ module _ (bs : List BoxFace) (Met : ℕ → Type 0) where
             p.1,
           )
 
-      led_parts : (z : Node) (ps : Parts) → IsIn s (part_sites z ps)
-          → ((p : Slot × Way) × IsIn p (pairs ps) × Met p.1.root × IsIn k (led_to bs p.1.steps)) × IsIn k (refs_of ps)
+      led_parts : (z : Node) (ps : Parts) → IsIn s (part_sites z ps) → LedPair (pairs ps) (refs_of ps)
       led_parts z no_parts i = absurd i
-      led_parts z (field f e ps) i = elim (in_append s (end_sites z e) (part_sites z ps) i) [
-        | inl j ↦
-            (let w = led_end z e j in (
-              (
-                (Field f, w.0.0),
-                in_left (Field f, w.0.0) (map (λ (y : Way). (Field f, y)) (ways (bare_end e)))
-                    (pairs ps) (in_map (λ (y : Way). (Field f, y)) w.0.0 (ways (bare_end e)) w.0.1),
-                w.0.2,
-                w.0.3,
-              ),
-              in_left k (end_refs e) (refs_of ps) w.1,
-            ))
-        | inr j ↦
-            (let p = led_parts z ps j in (
-              (
-                p.0.0,
-                in_right p.0.0 (map (λ (w : Way). (Field f, w)) (ways (bare_end e))) (pairs ps) p.0.1,
-                p.0.2,
-                p.0.3,
-              ),
-              in_right k (end_refs e) (refs_of ps) p.1,
-            ))
-      ]
-      led_parts z (link b inside e ps) i = elim (in_append s (end_sites z e) (part_sites z ps) i) [
-        | inl j ↦
-            (let w = led_end z e j in (
-              (
-                (Link b, w.0.0),
-                in_left (Link b, w.0.0) (map (λ (y : Way). (Link b, y)) (ways (bare_end e))) (pairs ps)
-                    (in_map (λ (y : Way). (Link b, y)) w.0.0 (ways (bare_end e)) w.0.1),
-                w.0.2,
-                w.0.3,
-              ),
-              in_left k (end_refs e) (refs_of ps) w.1,
-            ))
-        | inr j ↦
-            (let p = led_parts z ps j in (
-              (
-                p.0.0,
-                in_right p.0.0 (map (λ (w : Way). (Link b, w)) (ways (bare_end e))) (pairs ps) p.0.1,
-                p.0.2,
-                p.0.3,
-              ),
-              in_right k (end_refs e) (refs_of ps) p.1,
-            ))
-      ]
+      led_parts z (field f e ps) i = led_slot (Field f) (ways (bare_end e)) (pairs ps) (end_refs e) (refs_of ps)
+          (elim (in_append s (end_sites z e) (part_sites z ps) i) [
+            | inl j ↦ inl (led_end z e j)
+            | inr j ↦ inr (led_parts z ps j)
+          ])
+      led_parts z (link b inside e ps) i = led_slot (Link b) (ways (bare_end e)) (pairs ps) (end_refs e) (refs_of ps)
+          (elim (in_append s (end_sites z e) (part_sites z ps) i) [
+            | inl j ↦ inl (led_end z e j)
+            | inr j ↦ inr (led_parts z ps j)
+          ])
       led_parts z (hook b inside ps) i = led_parts z ps i
 
-      led_end : (z : Node) (e : End) → IsIn s (end_sites z e)
-          → ((w : Way) × IsIn w (ways (bare_end e)) × Met w.root × IsIn k (led_to bs w.steps)) × IsIn k (end_refs e)
+      led_end : (z : Node) (e : End) → IsIn s (end_sites z e) → LedWay (ways (bare_end e)) (end_refs e)
       led_end z (under n) i = led_tree (child_of z) n i
       led_end z (leaf t) i = absurd i
 

@@ -15,6 +15,8 @@ pub mod Ports
 pub mod TablesKnown
 pub mod RootMarks
 pub mod ByMarks
+pub mod BackHops
+pub mod Pairs
 pub mod Insides
 pub mod Dressable
 pub mod InsideLaws

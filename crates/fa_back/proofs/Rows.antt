@@ -14,7 +14,8 @@ use Rattle.fa_core.proofs.RowsBack.{dll, opened, root_cell, v_tree, v_ways, u_tr
 use Rattle.fa_back.specs.Reached.{RootReached, by_var, by_way, IsMarkAt, SignReached, from_there, down_to, back_to}
 use Rattle.fa_back.specs.Reached.{reach_to, IsSignedBy, AllNameBelow, node_at}
 use Rattle.fore_search.specs.Reached.{row}
-use Rattle.fa_back.specs.inner.HopTables.{hop, mark_hops, tree_hops, table_of}
+use Rattle.fa_back.specs.BackHops.{hop}
+use Rattle.fa_back.specs.inner.HopTables.{mark_hops, tree_hops, table_of}
 use Rattle.fa_back.proofs.ByMarks.{signed_met}
 
 abbrev marked : ℕ → Bool → List ℕ → RefMark

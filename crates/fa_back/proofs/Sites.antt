@@ -108,28 +108,23 @@ pub end_in_node : (n : Node) (o : Option ℕ) (e : End) (k : ℕ) → IsIn (o, e
     → IsIn k (refs n)
 end_in_node (node c s ds ps) o e k i h = end_in ps o e k i h
 
+-- a cell at an end stands there
+end_site : (z u : Node) (e : End) → under u ≡ e → IsIn (site (child_of z) u) (end_sites z e)
+end_site z u e h = subst (λ (y : End). IsIn (site (child_of z) u) (end_sites z y)) h (head u)
+  where
+    head : (n : Node) → IsIn (site (child_of z) n) (tree_sites (child_of z) n)
+    head (node c s ds ps) = inl refl
+
 -- the child of a cell at z stands below z
 pub child_site : (z : Node) (ps : Parts) (o : Option ℕ) (u : Node) → IsIn (o, under u) (ends_of ps)
     → IsIn (site (child_of z) u) (part_sites z ps)
 child_site z no_parts o u i = absurd i
 child_site z (field f e ps) o u (inl i) = in_left (site (child_of z) u) (end_sites z e) (part_sites z ps)
-    (first e (ap (λ (y : Option ℕ × End). y.1) i))
-  where
-    first : (e : End) → under u ≡ e → IsIn (site (child_of z) u) (end_sites z e)
-    first e h = subst (λ (y : End). IsIn (site (child_of z) u) (end_sites z y)) h (head u)
-      where
-        head : (u : Node) → IsIn (site (child_of z) u) (tree_sites (child_of z) u)
-        head (node c s ds ps) = inl refl
+    (end_site z u e (ap (λ (y : Option ℕ × End). y.1) i))
 child_site z (field f e ps) o u (inr i) = in_right (site (child_of z) u) (end_sites z e) (part_sites z ps)
     (child_site z ps o u i)
 child_site z (link b inside e ps) o u (inl i) = in_left (site (child_of z) u) (end_sites z e) (part_sites z ps)
-    (first e (ap (λ (y : Option ℕ × End). y.1) i))
-  where
-    first : (e : End) → under u ≡ e → IsIn (site (child_of z) u) (end_sites z e)
-    first e h = subst (λ (y : End). IsIn (site (child_of z) u) (end_sites z y)) h (head u)
-      where
-        head : (u : Node) → IsIn (site (child_of z) u) (tree_sites (child_of z) u)
-        head (node c s ds ps) = inl refl
+    (end_site z u e (ap (λ (y : Option ℕ × End). y.1) i))
 child_site z (link b inside e ps) o u (inr i) = in_right (site (child_of z) u) (end_sites z e) (part_sites z ps)
     (child_site z ps o u i)
 child_site z (hook b inside ps) o u i = child_site z ps o u i

@@ -1,12 +1,12 @@
 -- The table of hops leads where the signatures say.
-use Rattle.std.proofs.Common.{◌≡◌, ◌≢◌, ◌⊎◌, inl, inr, ℕ, zero, suc, ◌<◌, ◌+◌, Bool, true, false, cond, List, []}
-use Rattle.std.proofs.Common.{◌∷◌, ◌++◌, map, flat_map, length, replicate, refl, sym, ap, subst, ◌∙◌, arith}
+use Rattle.std.proofs.Common.{◌≡◌, ◌≢◌, ◌⊎◌, inl, inr, ℕ, zero, suc, ◌<◌, ◌+◌, Bool, List, []}
+use Rattle.std.proofs.Common.{◌∷◌, ◌++◌, flat_map, length, replicate, refl, sym, ap, subst, ◌∙◌, arith}
 use Rattle.std.proofs.Common.{Some, slice_get}
 use Rattle.std.proofs.lemmas.List.{length-set, length-replicate, get_or-set_same, get_or-set_other}
 use Rattle.std.proofs.lemmas.Option.{none-some, same_Some, slice_get_within}
 use Rattle.fore_base.specs.Lists.{IsIn, Every}
 use Rattle.fore_base.specs.Marks.{MarksOf}
-use Rattle.fore_base.proofs.ListLemmas.{in_left, in_right, in_append, in_map, in_mapped, in_push, in_every, every_in}
+use Rattle.fore_base.proofs.ListLemmas.{in_left, in_right, in_append, in_push, in_every, every_in}
 use Rattle.fore_base.proofs.ListLemmas.{every_weaker, in_from_place}
 use Rattle.fa_core.specs.declared.signature.RefMark.{RefMark}
 use Rattle.fa_core.specs.declared.signature.Signature.{Signature}
@@ -22,7 +22,9 @@ use Rattle.fa_back.specs.Reached.{
   NamesBelow,
 }
 use Rattle.fore_search.specs.Reached.{row, IsReached, start, next}
-use Rattle.fa_back.specs.inner.HopTables.{hop, back_hops, mark_hops, tree_hops, put_hop, put_hops, table_of}
+use Rattle.fa_back.specs.BackHops.{hop}
+use Rattle.fa_back.specs.inner.HopTables.{mark_hops, tree_hops, put_hop, put_hops, table_of}
+use Rattle.fa_back.proofs.BackHops.{back_kinds, own_there, reach_there}
 use Rattle.fa_back.proofs.RootMarks.{in_flat, flat_in}
 use Rattle.fa_back.proofs.FactParts.{same_or_not}
 
@@ -148,26 +150,6 @@ hops_in i (z ∷ ss) (suc j) s m x e h k =
     in_right x (flat_map (mark_hops i) z.refs) (tree_hops (suc i) ss)
     (hops_in (suc i) ss j s m x e h (subst (λ (n : ℕ). IsIn x (mark_hops n m)) next k))
 
--- the hops of a mark
-abbrev Kinds : ℕ → RefMark → Hop → Type 0
-Kinds i m x = (x ≡ hop i m.root)
-    ⊎ (((x ≡ hop m.root i) × (m.back ≡ true)) ⊎ ((k : ℕ) × IsIn k m.reach × (x ≡ hop m.root k)))
-
-of_mark : (i : ℕ) (m : RefMark) (x : Hop) → IsIn x (mark_hops i m) → Kinds i m x
-of_mark i m x (inl e) = inl e
-of_mark i m x (inr h) = elim (in_append x (back_hops i m) (map (hop m.root) m.reach) h) [
-  | inl k ↦ inr (inl (here m.back refl k))
-  | inr k ↦ inr (inr (in_mapped (hop m.root) x m.reach k))
-]
-  where
-    here : (b : Bool) → m.back ≡ b → IsIn x (cond b (hop m.root i ∷ []) []) → (x ≡ hop m.root i) × (m.back ≡ true)
-    here true e (inl q) = (q, e)
-    here true e (inr z) = absurd z
-    here false e z = absurd z
-
-back_there : (i : ℕ) (m : RefMark) → m.back ≡ true → IsIn (hop m.root i) (back_hops i m)
-back_there i m e = subst (λ (b : Bool). IsIn (hop m.root i) (cond b (hop m.root i ∷ []) [])) (sym e) (inl refl)
-
 abbrev pub AreInside : ℕ → Hop → Type 0
 AreInside n h = (h.from < n) × (h.to < n)
 
@@ -183,9 +165,9 @@ module _ (ss : List Signature) (within : AllNameBelow (length ss) ss) where
       let s = every_in (λ (s : Signature). Every (NamesBelow (length ss)) s.refs) ss f.sign within
       (in_from_place ss f.place f.sign f.is_at) in
       let m : NamesBelow (length ss) f.ref = every_in (NamesBelow (length ss)) f.sign.refs f.ref s f.is_in in
-      elim (of_mark (0 + f.place) f.ref x f.hops) [
+      elim f.hops [
         | inl e ↦ inside_is (length ss) x (0 + f.place) f.ref.root e own m.0
-        | inr z ↦ elim z [
+        | inr z ↦ elim (back_kinds (0 + f.place) f.ref x z) [
           | inl e ↦ inside_is (length ss) x f.ref.root (0 + f.place) e.0 m.0 own
           | inr e ↦ inside_is (length ss) x f.ref.root e.0 e.2 m.0
               (every_in (λ k. k < length ss) f.ref.reach e.0 m.1 e.1)
@@ -224,11 +206,11 @@ module _ (ss : List Signature) (within : AllNameBelow (length ss) ss) where
     by_mark : (q r : ℕ) → SignReached ss from q → HopFrom 0 ss (hop q r) → SignReached ss from r
     by_mark q r h f =
         let here : 0 + f.place ≡ f.place = omega arith in
-        elim (of_mark (0 + f.place) f.ref (hop q r) f.hops) [
+        elim f.hops [
           | inl e ↦ down_to f.place f.ref
               (subst (SignReached ss from) (ap (λ (z : Hop). z.from) e ∙ here) h) (f.sign, f.is_at, f.is_in)
               (sym (ap (λ (z : Hop). z.to) e))
-          | inr z ↦ elim z [
+          | inr z ↦ elim (back_kinds (0 + f.place) f.ref (hop q r) z) [
             | inl e ↦ subst (SignReached ss from) (sym (ap (λ (z : Hop). z.to) e.0 ∙ here))
                 (back_to f.ref (subst (SignReached ss from) (ap (λ (z : Hop). z.from) e.0) h)
                 (f.sign, f.is_at, f.is_in) e.1)
@@ -252,11 +234,11 @@ module _ (ss : List Signature) (within : AllNameBelow (length ss) ss) where
     signed_reached r (down_to j m h i e) =
         next j (signed_reached j h) (hop_table j r (there j m (hop j r) i (inl (ap (hop j) (sym e)))))
     signed_reached r (back_to m h i b) =
-        next m.root (signed_reached m.root h) (hop_table m.root r (there r m (hop m.root r) i
-        (inr (in_left (hop m.root r) (back_hops r m) (map (hop m.root) m.reach) (back_there r m b)))))
+        next m.root (signed_reached m.root h)
+        (hop_table m.root r (there r m (hop m.root r) i (inr (own_there r m b))))
     signed_reached r (reach_to j m h i k) =
-        next m.root (signed_reached m.root h) (hop_table m.root r (there j m (hop m.root r) i
-        (inr (in_right (hop m.root r) (back_hops j m) (map (hop m.root) m.reach) (in_map (hop m.root) r m.reach k)))))
+        next m.root (signed_reached m.root h)
+        (hop_table m.root r (there j m (hop m.root r) i (inr (reach_there j m r k))))
 
   -- marks by the table are marks by the signatures
   pub marks_signed : (from : List ℕ) (marks : List Bool) → MarksOf (length (table_of ss)) (IsReached (table_of ss) from)

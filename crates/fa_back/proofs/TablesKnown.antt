@@ -67,18 +67,18 @@ module _ (m n : ℕ) (less : m ≤ n) where
       (λ r i. symbol_more r.symbol i) k) h
 
 module _ (face : Face) where
+  -- a box that has some face is one of the face's boxes
+  box_there : (P : Option BoxFace → Type 0) → (P None → ⊥) → (b : ℕ) → P (face_of face.boxes b) → b < length face.boxes
+  box_there P none b h = go (face_of face.boxes b) refl h
+    where
+      go : (o : Option BoxFace) → face_of face.boxes b ≡ o → P o → b < length face.boxes
+      go None e k = absurd (none k)
+      go (Some x) e k = slice_get_within face.boxes b x e
+
   slot_uses : (s : ℕ) (y : Slot) → SlotFits face s y → SlotUses (length face.boxes) y
   slot_uses s (Field f) h = tt
-  slot_uses s (Link b) h = go (face_of face.boxes b) refl h
-    where
-      go : (o : Option BoxFace) → face_of face.boxes b ≡ o → HasOutput o → b < length face.boxes
-      go None e k = absurd k
-      go (Some x) e k = slice_get_within face.boxes b x e
-  slot_uses s (Hook b) h = go (face_of face.boxes b) refl h
-    where
-      go : (o : Option BoxFace) → face_of face.boxes b ≡ o → HasNoOutput o → b < length face.boxes
-      go None e k = absurd k
-      go (Some x) e k = slice_get_within face.boxes b x e
+  slot_uses s (Link b) h = box_there HasOutput (λ n. n) b h
+  slot_uses s (Hook b) h = box_there HasNoOutput (λ n. n) b h
 
   port_uses : (y : Symbol) → PortSymbolFits face y → SymbolUses (length face.boxes) y
   port_uses Null h = tt

@@ -1,3 +1,4 @@
+pub mod BackHops
 pub mod Reached
 pub mod Insides
 pub mod inner

@@ -2,19 +2,26 @@
 
 ghost use Rattle.std.specs.Prelude.{◌≡◌, ◌<◌, ◌++◌, ◌^◌, [], length, map, flat_map, replicate, IfOk, OnOk};
 ghost use Rattle.fore_base.specs.Lists.{Every};
-ghost use Rattle.fa_back.specs.inner.HopTables.{hop, back_hops, mark_hops, tree_hops, put_hop, put_hops, table_of};
+ghost use Rattle.fa_back.specs.BackHops.{hop, own_hops, back_hops};
 ghost use Rattle.fa_back.specs.Reached.{AllNameBelow};
+ghost use Rattle.fa_back.specs.inner.HopTables.{mark_hops, tree_hops, put_hop, put_hops, table_of};
 
 use fa_core::signature::{RefMark, Signature};
-use fore_base::list::List;
+use fore_base::list::{Copies, List};
 use fore_base::memory::Mem;
-use std::alloc::Global;
+use std::alloc::{AllocError, Global};
 
 /// Where root `from` is reached, root `to` is too.
-#[derive(Drop)]
+#[derive(Clone, Copy, PartialEq, Eq)]
 pub struct Hop {
     pub from: u32,
     pub to: u32,
+}
+
+impl Copies for Hop {
+    fn copy(&self, _alloc: Global) -> Result<Hop, AllocError> {
+        Ok(*self)
+    }
 }
 
 /// For each root those to which it leads at once.
@@ -87,13 +94,21 @@ fn push_mark(hops: &mut List<Hop>, root: u32, mark: &RefMark) -> Mem<()>
         from: root,
         to: mark.root,
     })?;
-    push_back(hops, root, mark)?;
+    push_backs(hops, root, mark)?;
+    Ok(())
+}
+
+/// Adds the hops of the ways back by a mark of the trees of this root. Err is want of memory.
+pub fn push_backs(hops: &mut List<Hop>, root: u32, mark: &RefMark) -> Mem<()>
+    ensures { OnOk result (hops.new ≡ hops.old ++ back_hops root mark.now) }
+{
+    push_own(hops, root, mark)?;
     push_reach(hops, mark.root, mark.reach.as_slice())?;
     Ok(())
 }
 
-fn push_back(hops: &mut List<Hop>, root: u32, mark: &RefMark) -> Mem<()>
-    ensures { OnOk result (hops.new ≡ hops.old ++ back_hops root mark.now) }
+fn push_own(hops: &mut List<Hop>, root: u32, mark: &RefMark) -> Mem<()>
+    ensures { OnOk result (hops.new ≡ hops.old ++ own_hops root mark.now) }
 {
     if mark.back {
         hops.push(Hop {

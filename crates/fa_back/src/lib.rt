@@ -11,4 +11,5 @@ pub mod ranked;
 mod tests;
 
 pub use closure::reached;
+pub use hops::{Hop, push_backs};
 pub use ranked::ranked_insides;

@@ -1,21 +1,14 @@
 -- The roots to which each root leads at once, as a table.
-use Rattle.std.specs.Prelude.{ℕ, suc, if◌then◌else◌, List, [], ◌∷◌, ◌++◌, map, flat_map, length, slice_set, replicate}
+use Rattle.std.specs.Prelude.{ℕ, suc, List, [], ◌∷◌, ◌++◌, flat_map, length, slice_set, replicate}
 use Rattle.fore_search.specs.Reached.{row}
 use Rattle.fa_core.specs.declared.signature.RefMark.{RefMark}
 use Rattle.fa_core.specs.declared.signature.Signature.{Signature}
 use Rattle.fa_back.specs.declared.hops.Hop.{Hop}
-
--- from the one root to the other
-abbrev pub hop : ℕ → ℕ → Hop
-hop i r = record { from = i; to = r }
-
--- to the root of the tree, where the whole way leads back
-abbrev pub back_hops : ℕ → RefMark → List Hop
-back_hops j m = if m.back then hop m.root j ∷ [] else []
+use Rattle.fa_back.specs.BackHops.{hop, back_hops}
 
 -- by a mark of the trees of root j
 abbrev pub mark_hops : ℕ → RefMark → List Hop
-mark_hops j m = hop j m.root ∷ (back_hops j m ++ map (hop m.root) m.reach)
+mark_hops j m = hop j m.root ∷ back_hops j m
 
 -- by the signatures of the components from root j on
 abbrev pub tree_hops : ℕ → List Signature → List Hop

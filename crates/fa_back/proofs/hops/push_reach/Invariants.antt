@@ -1,5 +1,5 @@
 use Rattle.std.proofs.Common.{◌≡◌, ◌++◌, drop, map}
-use Rattle.fa_back.specs.inner.HopTables.{hop}
+use Rattle.fa_back.specs.BackHops.{hop}
 use Rattle.fa_back.proofs.hops.push_reach.Given as goal
 
 abbrev pub invariant-loop-root : goal.invariant-loop-root
