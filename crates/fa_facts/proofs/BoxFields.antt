@@ -1,9 +1,7 @@
 -- Insides of sound boxes give their ports what the boxes' faces say, and their cells the fields of their structs.
 use Rattle.std.proofs.Common.{◌≡◌, inl, inr, ℕ, zero, suc, ◌<◌, ◌+◌, List, [], ◌∷◌, ◌++◌}
-use Rattle.std.proofs.Common.{Option, Some, None, slice_get, length, length-append, flat_map, refl, sym, ap, subst}
+use Rattle.std.proofs.Common.{Option, Some, None, slice_get, length, flat_map, refl, sym, ap, subst}
 use Rattle.std.proofs.Common.{◌∙◌, arith}
-use Rattle.std.proofs.Common.{append_assoc, ◌≤◌}
-use Rattle.std.proofs.Math.Nat.{eq-or-lt_of_le}
 use Rattle.std.proofs.lemmas.Option.{none-some, same_Some}
 use Rattle.fore_base.specs.Lists.{IsIn, Paired}
 use Rattle.fore_base.specs.declared.shape.Shape.{Shape}
@@ -29,6 +27,7 @@ use Rattle.fa_core.proofs.SeenCells.{node_structs, tops_structs}
 use Rattle.fa_facts.proofs.FactCounts.{given_n, owed_n, at_cell, at_value, fields_sum}
 use Rattle.fa_facts.proofs.ForestFields.{root_is, idle_port, ports_count}
 use Rattle.fa_facts.proofs.RootGifts.{roots_tips, gift_none}
+use Rattle.fa_facts.proofs.Tables.{face_of_table, face_before, face_next, inside_next, each_box}
 use Rattle.fa_facts.proofs.TreeFields.{Lands, LinkGives, HookGives}
 
 -- One box.
@@ -116,96 +115,55 @@ module _ (face : Face) (T : List BoxDef) (c f : ℕ) (links : (b : ℕ) → Link
 
 -- All boxes of a table.
 
-face_before : (before defs : List BoxDef) (b : ℕ) (x : BoxFace) → slice_get (faces_of before) b ≡ Some x
-    → (b < length before) × (slice_get (faces_of (before ++ defs)) b ≡ Some x)
-face_before [] defs b x e = absurd (none-some x e)
-face_before (d ∷ before) defs zero x e = (omega arith, e)
-face_before (d ∷ before) defs (suc b) x e =
-    let h = face_before before defs b x e in
-    let l = h.0 in
-    (omega (arith, l), h.1)
-
-face_next : (before : List BoxDef) (d : BoxDef) (defs : List BoxDef) (x : BoxFace)
-    → slice_get (faces_of (before ++ (d ∷ defs))) (length before) ≡ Some x → d.face ≡ x
-face_next [] d defs x e = same_Some d.face x e
-face_next (b ∷ before) d defs x e = face_next before d defs x e
-
-inside_next : (before : List BoxDef) (d : BoxDef) (defs : List BoxDef) (autos : List Automaton)
-    → inside_of (before ++ (d ∷ defs)) (length before) ≡ Some autos → d.inside.autos ≡ autos
-inside_next [] d defs autos e = same_Some d.inside.autos autos e
-inside_next (b ∷ before) d defs autos e = inside_next before d defs autos e
-
 module _ (shapes : Shapes) (c f : ℕ) where
-  abbrev face_of_table : List BoxDef → Face
-  face_of_table T = record { shapes = shapes; boxes = faces_of T }
+  abbrev face_at : List BoxDef → Face
+  face_at T = face_of_table shapes T
 
   abbrev pub Gives : List BoxDef → ℕ → Type 0
-  Gives T b = LinkGives (face_of_table T) T c f b × HookGives (face_of_table T) T c f b
+  Gives T b = LinkGives (face_at T) T c f b × HookGives (face_at T) T c f b
 
-  module _ (before : List BoxDef) (d : BoxDef) (defs : List BoxDef) (sound : SoundBox (face_of_table before) before d)
+  module _ (before : List BoxDef) (d : BoxDef) (defs : List BoxDef) (sound : SoundBox (face_at before) before d)
       (lower : (b : ℕ) → b < length before → Gives (before ++ (d ∷ defs)) b) where
-    abbrev T : List BoxDef
-    T = before ++ (d ∷ defs)
+    there : (b : ℕ) (x : BoxFace) → slice_get (faces_of before) b ≡ Some x
+        → (b < length before) × (slice_get (faces_of (before ++ (d ∷ defs))) b ≡ Some x)
+    there b x e = face_before (λ (o : Option BoxFace). o ≡ Some x) (none-some x) before (d ∷ defs) b e
 
-    links : (b : ℕ) → LinkGives (face_of_table before) (before ++ (d ∷ defs)) c f b
-    links b x t autos i m w e o s trees l =
-        let h = face_before before (d ∷ defs) b x e in (lower b h.0).0 x t autos i m w h.1 o s trees l
+    links : (b : ℕ) → LinkGives (face_at before) (before ++ (d ∷ defs)) c f b
+    links b x t autos i m w e o s trees l = let h = there b x e in (lower b h.0).0 x t autos i m w h.1 o s trees l
 
-    hooks : (b : ℕ) → HookGives (face_of_table before) (before ++ (d ∷ defs)) c f b
-    hooks b x autos i m e o s trees =
-        let h = face_before before (d ∷ defs) b x e in (lower b h.0).1 x autos i m h.1 o s trees
+    hooks : (b : ℕ) → HookGives (face_at before) (before ++ (d ∷ defs)) c f b
+    hooks b x autos i m e o s trees = let h = there b x e in (lower b h.0).1 x autos i m h.1 o s trees
 
     fits : (autos : List Automaton) (i : Nodes) → inside_of (before ++ (d ∷ defs)) (length before) ≡ Some autos
-        → TreesOf (before ++ (d ∷ defs)) autos i → InsideFits (face_of_table before) d.face (bares i)
+        → TreesOf (before ++ (d ∷ defs)) autos i → InsideFits (face_at before) d.face (bares i)
     fits autos i s trees =
         let e = inside_next before d defs autos s in
         sound.fits (bares i) (choice_of (before ++ (d ∷ defs)) d.inside.autos i
         (subst (λ (y : List Automaton). TreesOf (before ++ (d ∷ defs)) y i) (sym e) trees))
 
+    -- the next box has this face
+    face_is : (x : BoxFace) → slice_get (faces_of (before ++ (d ∷ defs))) (length before) ≡ Some x → d.face ≡ x
+    face_is x e = same_Some d.face x (sym (face_next before d defs) ∙ e)
+
     next_gives : Gives (before ++ (d ∷ defs)) (length before)
     next_gives = (
       λ x t autos i m w e o s trees l.
-          (let y = face_next before d defs x e in
-          link_count (face_of_table before) (before ++ (d ∷ defs)) c f links hooks x t autos i m w trees
-          (subst (λ (z : BoxFace). InsideFits (face_of_table before) z (bares i)) y (fits autos i s trees)) o l),
+          link_count (face_at before) (before ++ (d ∷ defs)) c f links hooks x t autos i m w trees
+          (subst (λ (z : BoxFace). InsideFits (face_at before) z (bares i)) (face_is x e) (fits autos i s trees)) o l,
       λ x autos i m e o s trees.
-          (let y = face_next before d defs x e in
-          hook_count (face_of_table before) (before ++ (d ∷ defs)) c f links hooks x autos i m trees
-          (subst (λ (z : BoxFace). InsideFits (face_of_table before) z (bares i)) y (fits autos i s trees)) o),
+          hook_count (face_at before) (before ++ (d ∷ defs)) c f links hooks x autos i m trees
+          (subst (λ (z : BoxFace). InsideFits (face_at before) z (bares i)) (face_is x e) (fits autos i s trees)) o,
     )
-
-  all_give : (before defs : List BoxDef) → AreSoundOver shapes before defs
-      → ((b : ℕ) → b < length before → Gives (before ++ defs) b) → (b : ℕ) → b < length (before ++ defs)
-      → Gives (before ++ defs) b
-  all_give before [] h lower b l = lower b (let e = length-append before [] in omega (arith, e, l))
-  all_give before (d ∷ defs) h lower b l =
-      let e : (before ++ (d ∷ [])) ++ defs ≡ before ++ (d ∷ defs) = append_assoc before (d ∷ []) defs in
-      subst (λ (T : List BoxDef). Gives T b) e
-      (all_give (before ++ (d ∷ [])) defs h.1
-      (λ k n. subst (λ (T : List BoxDef). Gives T k) (sym e)
-      (either k (let z = length-append before (d ∷ []) in omega (arith, z, n))))
-      b (subst (λ (T : List BoxDef). b < length T) (sym e) l))
-    where
-      either : (k : ℕ) → k < suc (length before) → Gives (before ++ (d ∷ defs)) k
-      either k n = elim (eq-or-lt_of_le (below_next k (length before) n)) [
-        | inl q ↦ subst (λ (z : ℕ). Gives (before ++ (d ∷ defs)) z) (sym q) (next_gives before d defs h.0 lower)
-        | inr l ↦ lower k l
-      ]
-        where
-          below_next : (j m : ℕ) → j < suc m → j ≤ m
-          below_next j m a = omega (arith, a)
 
   -- each box of a sound table gives its ports what its face says
   pub table_gives : (T : List BoxDef) → AreSoundOver shapes [] T → (b : ℕ) → Gives T b
   table_gives T h b = (
     λ x t autos i m w e o s trees l.
-        (all_give [] T h none b (inside_there T b autos s)).0 x t autos i m w e o s trees l,
-    λ x autos i m e o s trees. (all_give [] T h none b (inside_there T b autos s)).1 x autos i m e o s trees,
+        (each_box shapes Gives next_gives T h b (inside_there T b autos s)).0 x t autos i m w e o s trees l,
+    λ x autos i m e o s trees.
+        (each_box shapes Gives next_gives T h b (inside_there T b autos s)).1 x autos i m e o s trees,
   )
     where
-      none : (k : ℕ) → k < 0 → Gives T k
-      none k n = absurd (omega (arith, n))
-
       inside_there : (T : List BoxDef) (b : ℕ) (autos : List Automaton) → inside_of T b ≡ Some autos → b < length T
       inside_there [] b autos e = absurd (none-some autos e)
       inside_there (d ∷ T) zero autos e = omega arith

@@ -6,4 +6,5 @@ pub mod FullFacts
 pub mod NamedCells
 pub mod RootGifts
 pub mod Rows
+pub mod Tables
 pub mod TreeFields
