@@ -7,6 +7,7 @@ use Rattle.fore_base.specs.Lists.{IsIn, Every, Paired}
 use Rattle.fore_base.proofs.ListLemmas.{in_every, every_in, in_map, in_mapped, paired_long}
 use Rattle.fa_back.proofs.RootMarks.{in_flat, flat_in}
 use Rattle.fa_back.proofs.FactParts.{same_or_not}
+use Rattle.fa_back.proofs.Pairs.{paired_at, paired_back}
 use Rattle.fa_reach.specs.declared.part.Part.{Part}
 use Rattle.fa_reach.specs.inner.Going.{Goes, here, down, back, AreOf, Forced, Missed, Met, Barred, IsFit, AreFit}
 use Rattle.fa_reach.specs.inner.Going.{flat, merged}
@@ -25,21 +26,6 @@ module _ {X : Type 0} where
   get_set_other (y ∷ xs) (suc i) (suc k) x n = get_set_other xs i k x (λ e. n (ap suc e))
 
 module _ {X Y : Type 0} (R : X → Y → Type 0) where
-  -- partners stand in the same place
-  pub paired_at : (xs : List X) (ys : List Y) (k : ℕ) (x : X) → Paired R xs ys → slice_get xs k ≡ Some x
-      → (y : Y) × (slice_get ys k ≡ Some y) × R x y
-  paired_at [] ys k x p e = absurd (none-some x e)
-  paired_at (z ∷ xs) [] k x p e = absurd p
-  paired_at (z ∷ xs) (y ∷ ys) zero x p e = (y, refl, subst (λ (v : X). R v y) (same_Some z x e) p.0)
-  paired_at (z ∷ xs) (y ∷ ys) (suc k) x p e = paired_at xs ys k x p.1 e
-
-  pub paired_back : (xs : List X) (ys : List Y) (k : ℕ) (y : Y) → Paired R xs ys → slice_get ys k ≡ Some y
-      → (x : X) × (slice_get xs k ≡ Some x) × R x y
-  paired_back xs [] k y p e = absurd (none-some y e)
-  paired_back [] (z ∷ ys) k y p e = absurd p
-  paired_back (x ∷ xs) (z ∷ ys) zero y p e = (x, refl, subst (R x) (same_Some z y e) p.0)
-  paired_back (x ∷ xs) (z ∷ ys) (suc k) y p e = paired_back xs ys k y p.1 e
-
   -- another partner
   pub paired_set : (xs : List X) (ys : List Y) (k : ℕ) (x : X) (y : Y) → Paired R xs ys → slice_get ys k ≡ Some y
       → R x y → Paired R (set xs k x) ys

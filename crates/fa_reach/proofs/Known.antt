@@ -24,10 +24,11 @@ use Rattle.fore_base.specs.Lists.{IsIn}
 use Rattle.fore_base.specs.Marks.{IsMarked, marked_count}
 use Rattle.fore_base.proofs.MarkLemmas.{count_set, count_within, marked_new, marked_set, marked_still, unmarked_none}
 use Rattle.fa_reach.specs.declared.part.Part.{Part}
-use Rattle.fa_reach.specs.declared.part.Hop.{Hop}
+use Rattle.fa_back.specs.declared.hops.Hop.{Hop}
 use Rattle.fa_reach.specs.inner.Going.{here, down, back, Forced, Missed, AvoidedFrom, ForcedFrom}
 use Rattle.fa_reach.specs.inner.Sweeps.{IsUnknown, Knows, Gains}
-use Rattle.fa_reach.proofs.Going.{IsOf, goes_on, paired_back}
+use Rattle.fa_back.proofs.Pairs.{paired_back}
+use Rattle.fa_reach.proofs.Going.{IsOf, goes_on}
 
 pub knows_first : (ps : List Part) (from : ℕ) → from < length ps
     → Knows ps from (set (replicate (length ps) false) from true)

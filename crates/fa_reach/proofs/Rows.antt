@@ -10,7 +10,8 @@ use Rattle.fa_box_rules.specs.Signs.{Picks}
 use Rattle.fa_reach.specs.declared.answer.Lead.TheVariants.{Always, Never, Sometimes}
 use Rattle.fa_reach.specs.declared.part.Part.{Part}
 use Rattle.fa_reach.specs.Choices.{AllReach, SomeMissed, MayLead, MayMiss, IsLead, HasSign}
-use Rattle.fa_reach.specs.inner.Parts.{hop, hops_of, roots_of, choice_count, picked}
+use Rattle.fa_back.specs.BackHops.{hop}
+use Rattle.fa_reach.specs.inner.Parts.{hops_of, roots_of, choice_count, picked}
 use Rattle.fa_reach.specs.inner.Going.{flat}
 use Rattle.fa_reach.specs.inner.Sweeps.{sweep_parts}
 

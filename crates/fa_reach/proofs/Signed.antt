@@ -1,22 +1,24 @@
 -- Signatures and their parts: which choices of the one are choices of the other.
-use Rattle.std.proofs.Common.{◌≡◌, ◌⊎◌, inl, inr, ℕ, zero, suc, ◌<◌, ◌+◌, Bool, true, false, cond, List, [], ◌∷◌}
-use Rattle.std.proofs.Common.{◌++◌, map, length, refl, sym, ap, subst, ◌∙◌, arith, Some, slice_get, take}
+use Rattle.std.proofs.Common.{◌≡◌, inl, inr, ℕ, zero, suc, ◌<◌, ◌+◌, List, [], ◌∷◌}
+use Rattle.std.proofs.Common.{◌++◌, length, refl, sym, ap, subst, ◌∙◌, arith, Some, slice_get, take}
 use Rattle.std.proofs.lemmas.Option.{slice_get_within}
 use Rattle.fore_base.specs.Lists.{IsIn, Every, Paired}
-use Rattle.fore_base.proofs.ListLemmas.{every_in, in_every, in_map, in_mapped, in_left, in_right, in_append, in_push}
+use Rattle.fore_base.proofs.ListLemmas.{every_in, in_every, in_map, in_mapped, in_left, in_push}
 use Rattle.fore_base.proofs.ListLemmas.{in_last, place_of, in_from_place, same_item}
 use Rattle.fa_core.specs.References.{AllBelow}
 use Rattle.fa_core.specs.declared.signature.RefMark.{RefMark}
 use Rattle.fa_core.specs.declared.signature.Signature.{Signature}
 use Rattle.fa_back.specs.Reached.{SignReached, from_there, down_to, back_to, reach_to, IsMarkAt, AllNameBelow}
 use Rattle.fa_back.specs.Reached.{NamesBelow}
+use Rattle.fa_back.specs.BackHops.{hop, back_hops}
+use Rattle.fa_back.proofs.BackHops.{back_kinds, own_there, reach_there}
 use Rattle.fa_back.proofs.RootMarks.{in_flat, flat_in}
 use Rattle.fa_box_rules.specs.Signs.{Picks}
 use Rattle.fa_reach.specs.Choices.{HasSign}
-use Rattle.fa_reach.specs.declared.part.Hop.{Hop}
+use Rattle.fa_back.specs.declared.hops.Hop.{Hop}
 use Rattle.fa_reach.specs.declared.part.Part.{Part}
-use Rattle.fa_reach.specs.inner.Parts.{hop, own_hops, mark_hops, hops_of, roots_of, AreDowns, AddsDown, IsPart, HasHops}
-use Rattle.fa_reach.specs.inner.Parts.{AreParts, AddsPart, AllParted, HasPart}
+use Rattle.fa_reach.specs.inner.Parts.{hops_of, roots_of, AreDowns, AddsDown, IsPart, HasHops, AreParts, AddsPart}
+use Rattle.fa_reach.specs.inner.Parts.{AllParted, HasPart}
 use Rattle.fa_reach.specs.inner.Going.{Goes, here, down, back, AreOf, IsFit, AllFit}
 
 -- Building.
@@ -110,25 +112,6 @@ pub parted_next : (lists : List (List Signature)) (all : List (List Part)) (i : 
 parted_next lists all i ss ps l a b = parted_push 0 (take i lists) all ss ps a
     (subst (λ (n : ℕ). AreParts n ss ss ps) (let e = take_long lists i l in omega (arith, e)) b)
 
--- The hops of a signature.
-
-abbrev Kinds : ℕ → RefMark → Hop → Type 0
-Kinds j m x = ((x ≡ hop m.root j) × (m.back ≡ true)) ⊎ ((k : ℕ) × IsIn k m.reach × (x ≡ hop m.root k))
-
-of_mark : (j : ℕ) (m : RefMark) (x : Hop) → IsIn x (mark_hops j m) → Kinds j m x
-of_mark j m x h = elim (in_append x (own_hops j m) (map (hop m.root) m.reach) h) [
-  | inl k ↦ inl (own m.back refl k)
-  | inr k ↦ inr (in_mapped (hop m.root) x m.reach k)
-]
-  where
-    own : (b : Bool) → m.back ≡ b → IsIn x (cond b (hop m.root j ∷ []) []) → (x ≡ hop m.root j) × (m.back ≡ true)
-    own true e (inl q) = (q, e)
-    own true e (inr z) = absurd z
-    own false e z = absurd z
-
-own_there : (j : ℕ) (m : RefMark) → m.back ≡ true → IsIn (hop m.root j) (own_hops j m)
-own_there j m e = subst (λ (b : Bool). IsIn (hop m.root j) (cond b (hop m.root j ∷ []) [])) (sym e) (inl refl)
-
 -- A choice of signatures beside the parts in which they are.
 
 -- the signature of component j is in the part, and refers to these roots
@@ -192,12 +175,12 @@ module _ (ss : List Signature) (ps : List Part) (ds : List (List ℕ)) (signed :
   at_first k l = subst (λ (n : ℕ). At n k ss ps ds) (omega arith) (at_place 0 ss ps ds k signed l)
 
   -- the mark of a signature is one of its part
-  part_hop : (j : ℕ) (m : RefMark) (x : Hop) → IsMarkAt ss j m → IsIn x (mark_hops j m)
+  part_hop : (j : ℕ) (m : RefMark) (x : Hop) → IsMarkAt ss j m → IsIn x (back_hops j m)
       → (p : Part) × IsIn p ps × IsIn x p.hops
   part_hop j m x h i =
       let w = at_first j (slice_get_within ss j h.0 h.1) in
       let same : h.0 ≡ w.sign = same_item ss j h.0 w.sign h.1 w.sign_at in
-      let there : IsIn x (hops_of j w.sign) = in_flat (mark_hops j) w.sign.refs m x
+      let there : IsIn x (hops_of j w.sign) = in_flat (back_hops j) w.sign.refs m x
       (subst (λ (z : Signature). IsIn m z.refs) same h.2) i in
       (w.part, in_from_place ps j w.part w.part_at, subst (λ (z : List Hop). IsIn x z) (sym w.is.0) there)
 
@@ -211,20 +194,18 @@ module _ (ss : List Signature) (ps : List Part) (ds : List (List ℕ)) (signed :
       down j w.roots (reached_goes i j h) w.roots_at
       (subst (λ (z : List ℕ). IsIn r z) (sym w.is.1) (subst (λ (n : ℕ). IsIn n (roots_of w.sign)) e there))
   reached_goes i r (back_to m h k b) =
-      let w = part_hop r m (hop m.root r) k
-      (in_left (hop m.root r) (own_hops r m) (map (hop m.root) m.reach) (own_there r m b)) in
+      let w = part_hop r m (hop m.root r) k (own_there r m b) in
       back w.0 (hop m.root r) (reached_goes i m.root h) w.1 w.2 refl
   reached_goes i r (reach_to j m h k l) =
-      let w = part_hop j m (hop m.root r) k
-      (in_right (hop m.root r) (own_hops j m) (map (hop m.root) m.reach) (in_map (hop m.root) r m.reach l)) in
+      let w = part_hop j m (hop m.root r) k (reach_there j m r l) in
       back w.0 (hop m.root r) (reached_goes i m.root h) w.1 w.2 refl
 
   -- and the other way round
   by_hop : (i j : ℕ) (s : Signature) (x : Hop) → slice_get ss j ≡ Some s → IsIn x (hops_of j s)
       → SignReached ss (i ∷ []) x.from → SignReached ss (i ∷ []) x.to
   by_hop i j s x e h g =
-      let f = flat_in (mark_hops j) s.refs x h in
-      elim (of_mark j f.0 x f.2) [
+      let f = flat_in (back_hops j) s.refs x h in
+      elim (back_kinds j f.0 x f.2) [
         | inl k ↦ subst (SignReached ss (i ∷ [])) (sym (ap (λ (z : Hop). z.to) k.0))
             (back_to f.0 (subst (SignReached ss (i ∷ [])) (ap (λ (z : Hop). z.from) k.0) g) (s, e, f.1) k.1)
         | inr k ↦ reach_to j f.0 (subst (SignReached ss (i ∷ [])) (ap (λ (z : Hop). z.from) k.2) g) (s, e, f.1)
@@ -313,7 +294,7 @@ chosen_of j (list ∷ lists) (qs ∷ all) (s ∷ ss) a b =
 
 part_fit : (n j : ℕ) (ss : List Signature) (p : Part) → j < n → AllNameBelow n ss → IsPart j ss p → IsFit n p
 part_fit n j ss p low below q = record {
-  hops = λ h i. hop_low h (flat_in (mark_hops j) q.some.0.refs h (subst (λ (z : List Hop). IsIn h z) (sym q.some.2) i));
+  hops = λ h i. hop_low h (flat_in (back_hops j) q.some.0.refs h (subst (λ (z : List Hop). IsIn h z) (sym q.some.2) i));
   downs = λ d i. roots_low d (q.downs.some d i);
   some = (roots_of q.some.0, q.downs.each q.some.0 q.some.1 q.some.2);
 }
@@ -321,10 +302,10 @@ part_fit n j ss p low below q = record {
     marks_low : (s : Signature) → IsIn s ss → Every (NamesBelow n) s.refs
     marks_low s i = every_in (λ (z : Signature). Every (NamesBelow n) z.refs) ss s below i
 
-    hop_low : (h : Hop) → ((m : RefMark) × IsIn m q.some.0.refs × IsIn h (mark_hops j m)) → h.to < n
+    hop_low : (h : Hop) → ((m : RefMark) × IsIn m q.some.0.refs × IsIn h (back_hops j m)) → h.to < n
     hop_low h w =
         let m = every_in (NamesBelow n) q.some.0.refs w.0 (marks_low q.some.0 q.some.1) w.1 in
-        elim (of_mark j w.0 h w.2) [
+        elim (back_kinds j w.0 h w.2) [
           | inl k ↦ subst (λ (z : Hop). z.to < n) (sym k.0) low
           | inr k ↦ subst (λ (z : Hop). z.to < n) (sym k.2) (every_in (λ i. i < n) w.0.reach k.0 m.1 k.1)
         ]

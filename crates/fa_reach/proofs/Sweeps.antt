@@ -9,11 +9,12 @@ use Rattle.fore_base.specs.Lists.{IsIn, Every}
 use Rattle.fore_base.specs.Marks.{IsMarked, all_marked, marked_count}
 use Rattle.fore_base.proofs.ListLemmas.{every_in, every_weaker, in_from_place}
 use Rattle.fore_base.proofs.MarkLemmas.{all_from, all_to, marks_fall, marked_below}
-use Rattle.fa_reach.specs.declared.part.Hop.{Hop}
+use Rattle.fa_back.specs.declared.hops.Hop.{Hop}
 use Rattle.fa_reach.specs.declared.part.Part.{Part}
 use Rattle.fa_reach.specs.inner.Going.{Goes, here, down, back, AreOf, Forced, IsFit, AreFit, AvoidedFrom, ForcedFrom}
 use Rattle.fa_reach.specs.inner.Sweeps.{kept_at, has_down, sweep_hops, sweep_part, sweep_parts, IsLost, IsClosed}
-use Rattle.fa_reach.proofs.Going.{paired_back, goes_on, IsOf}
+use Rattle.fa_back.proofs.Pairs.{paired_back}
+use Rattle.fa_reach.proofs.Going.{goes_on, IsOf}
 
 -- One number taken out.
 

@@ -1,15 +1,16 @@
 // The signatures of each component, parted by how they lead back.
 
-ghost use Rattle.std.specs.Prelude.{◌≡◌, ◌↔◌, ◌<◌, ◌^◌, ◌++◌, true, false, [], ◌∷◌, length, flat_map, map};
+ghost use Rattle.std.specs.Prelude.{◌≡◌, ◌↔◌, ◌<◌, ◌^◌, true, false, length, map};
 ghost use Rattle.std.specs.Prelude.{IsTrue, IfOk, OnOk};
 ghost use Rattle.fore_base.specs.Lists.{IsIn, Every};
 ghost use Rattle.fa_back.specs.Reached.{AllNameBelow};
 ghost use Rattle.fa_reach.specs.Choices.{HasSign};
 ghost use Rattle.fa_reach.specs.inner.Going.{AllFit};
-ghost use Rattle.fa_reach.specs.inner.Parts.{own_hops, mark_hops, hop, hops_of, roots_of, AreDowns, AreParts};
-ghost use Rattle.fa_reach.specs.inner.Parts.{AllParted, AddsDown, AddsPart, HasHops};
+ghost use Rattle.fa_reach.specs.inner.Parts.{hops_of, roots_of, AreDowns, AreParts, AllParted, AddsDown, AddsPart};
+ghost use Rattle.fa_reach.specs.inner.Parts.{HasHops};
 
-use crate::part::{Hop, Part};
+use crate::part::Part;
+use fa_back::{Hop, push_backs};
 use fa_core::signature::{RefMark, Signature};
 use fore_base::list::List;
 use fore_base::memory::Mem;
@@ -142,29 +143,7 @@ fn hops_of(alloc: Global, place: u32, signature: &Signature) -> Mem<List<Hop>>
 {
     let mut hops = List::new(alloc);
     for mark in signature.refs.as_slice() {
-        push_own(&mut hops, place, mark)?;
-        push_reach(&mut hops, mark.root, mark.reach.as_slice())?;
+        push_backs(&mut hops, place, mark)?;
     }
     Ok(hops)
-}
-
-fn push_own(hops: &mut List<Hop>, place: u32, mark: &RefMark) -> Mem<()>
-    ensures { OnOk result (hops.new ≡ hops.old ++ own_hops place mark.now) }
-{
-    if mark.back {
-        hops.push(Hop {
-            from: mark.root,
-            to: place,
-        })?;
-    }
-    Ok(())
-}
-
-fn push_reach(hops: &mut List<Hop>, from: u32, roots: &[u32]) -> Mem<()>
-    ensures { OnOk result (hops.new ≡ hops.old ++ map (hop from) roots.now) }
-{
-    for root in roots {
-        hops.push(Hop { from, to: *root })?;
-    }
-    Ok(())
 }

@@ -4,11 +4,12 @@
 ghost use Rattle.std.specs.Prelude.{◌≡◌, ◌<◌, ℕ, ◌^◌, length, Some, slice_get, IfOk};
 ghost use Rattle.fore_base.specs.Lists.{IsIn};
 ghost use Rattle.fa_reach.specs.declared.part.Part.{Part};
-ghost use Rattle.fa_reach.specs.declared.part.Hop.{Hop};
+ghost use Rattle.fa_back.specs.declared.hops.Hop.{Hop};
 ghost use Rattle.fa_reach.specs.inner.Going.{ForcedFrom};
 ghost use Rattle.fa_reach.specs.inner.Sweeps.{Gains};
 
-use crate::part::{Hop, Part};
+use crate::part::Part;
+use fa_back::Hop;
 use fore_base::list::List;
 use fore_base::marks::{is_marked, mark};
 use fore_base::memory::Mem;

@@ -4,7 +4,8 @@ ghost use Rattle.std.specs.Prelude.{◌≡◌, ◌<◌, ◌^◌, true, false, le
 ghost use Rattle.fore_base.specs.Marks.{marked_count};
 ghost use Rattle.fa_reach.specs.inner.Sweeps.{kept_at, has_down, sweep_hops, sweep_part, sweep_parts, IsClosed};
 
-use crate::part::{Hop, Part};
+use crate::part::Part;
+use fa_back::Hop;
 use fore_base::list::List;
 use fore_base::marks::{are_all_marked, count_marked, is_marked};
 

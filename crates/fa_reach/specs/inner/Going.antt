@@ -3,7 +3,7 @@ use Rattle.std.specs.Prelude.{◌≡◌, ℕ, ◌<◌, Bool, List, [], ◌∷◌
 use Rattle.fore_base.specs.Lists.{IsIn, Every, Paired}
 use Rattle.fore_base.specs.Marks.{IsMarked}
 use Rattle.fa_core.specs.References.{AllBelow}
-use Rattle.fa_reach.specs.declared.part.Hop.{Hop}
+use Rattle.fa_back.specs.declared.hops.Hop.{Hop}
 use Rattle.fa_reach.specs.declared.part.Part.{Part}
 use Rattle.fa_reach.specs.inner.Parts.{HasPart, choice_count, picked}
 

@@ -1,27 +1,16 @@
 -- The signatures of components, parted by how they lead back, and choices of parts.
-use Rattle.std.specs.Prelude.{◌≡◌, ◌⊎◌, ℕ, suc, ◌<◌, ◌*◌, ◌/◌, ◌%◌, if◌then◌else◌, List, [], ◌∷◌, ◌++◌, map}
+use Rattle.std.specs.Prelude.{◌≡◌, ◌⊎◌, ℕ, suc, ◌<◌, ◌*◌, ◌/◌, ◌%◌, List, [], ◌∷◌, ◌++◌, map}
 use Rattle.std.specs.Prelude.{flat_map, length, Option, Some, None, slice_get}
 use Rattle.fore_base.specs.Lists.{IsIn, Every}
 use Rattle.fa_core.specs.declared.signature.RefMark.{RefMark}
 use Rattle.fa_core.specs.declared.signature.Signature.{Signature}
-use Rattle.fa_reach.specs.declared.part.Hop.{Hop}
+use Rattle.fa_back.specs.declared.hops.Hop.{Hop}
+use Rattle.fa_back.specs.BackHops.{back_hops}
 use Rattle.fa_reach.specs.declared.part.Part.{Part}
-
--- from the one root to the other
-abbrev pub hop : ℕ → ℕ → Hop
-hop i r = record { from = i; to = r }
-
--- to the root of the tree, where the whole way leads back
-abbrev pub own_hops : ℕ → RefMark → List Hop
-own_hops j m = if m.back then hop m.root j ∷ [] else []
-
--- the ways back of a mark of the trees of component j
-abbrev pub mark_hops : ℕ → RefMark → List Hop
-mark_hops j m = own_hops j m ++ map (hop m.root) m.reach
 
 -- the ways back of trees of component j with this signature
 abbrev pub hops_of : ℕ → Signature → List Hop
-hops_of j s = flat_map (mark_hops j) s.refs
+hops_of j s = flat_map (back_hops j) s.refs
 
 -- the roots to which they refer
 abbrev pub roots_of : Signature → List ℕ

@@ -3,7 +3,7 @@ use Rattle.std.specs.Prelude.{◌≡◌, ℕ, suc, ◌<◌, Bool, true, false, �
 use Rattle.std.specs.Prelude.{slice_get, slice_index_or, slice_set}
 use Rattle.fore_base.specs.Lists.{IsIn}
 use Rattle.fore_base.specs.Marks.{IsMarked, all_marked}
-use Rattle.fa_reach.specs.declared.part.Hop.{Hop}
+use Rattle.fa_back.specs.declared.hops.Hop.{Hop}
 use Rattle.fa_reach.specs.declared.part.Part.{Part}
 use Rattle.fa_reach.specs.inner.Going.{Forced}
 

@@ -1,7 +1,7 @@
 use Rattle.std.proofs.Common.{List, get_or, subst}
 use Rattle.fore_base.specs.Lists.{IsIn}
 use Rattle.fore_base.proofs.ListLemmas.{in_place}
-use Rattle.fa_reach.specs.declared.part.Hop.{Hop}
+use Rattle.fa_back.specs.declared.hops.Hop.{Hop}
 use Rattle.fa_reach.proofs.spreading.spread_hops.Goals as goal
 
 pub spread_hop-requires-clause-hop : goal.spread_hop-requires-clause-hop
