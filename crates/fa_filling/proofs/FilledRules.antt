@@ -22,7 +22,8 @@ use Rattle.fa_filling.specs.Ruled.{SymbolsOf, RuleSpots, SpotsFromRules, AreTops
 use Rattle.fa_filling.specs.Ruled.{LinkAlways, OutputAlways, BoxAlways, HookAlways, SlotAlways, RuleAlways}
 use Rattle.fa_filling.specs.Ruled.{EdgeAlways, IsShapedCell, ShapedBy, IsShapedRule, OnceBy, StateOnce, RootOnce}
 use Rattle.fa_filling.specs.Ruled.{EdgeOnce, OnceBelow, IsOnceBelow, AreRulesFilled, IsFilledPart}
-use Rattle.fa_filling.proofs.SpotRules.{spots_by_rules, rules_by_spots, at_edge, passed}
+use Rattle.ta_core.proofs.Runs.{passed_tree}
+use Rattle.fa_filling.proofs.SpotRules.{spots_by_rules, rules_by_spots, at_edge}
 
 -- TOPS
 
@@ -345,7 +346,7 @@ module _ (face : Face) (topss : List (List ℕ)) (a : Automaton) (above : List �
       any = some_tops topss full
 
       symbols : (q : ℕ) → q < a.states → (y : Symbol) × SymbolsOf a.rules q y
-      symbols q l = let p = trim q l in let w = passed a.rules p.3 in of_run w.0 w.1
+      symbols q l = let p = trim q l in let w = passed_tree p.3 in of_run w.0 w.1
         where
           of_run : {q : ℕ} (t : Tree) → RunOf a.rules q t → (y : Symbol) × SymbolsOf a.rules q y
           of_run t (run r i e s k) = (r.symbol, (r, i, e, refl))

@@ -6,7 +6,7 @@ use Rattle.fore_base.specs.declared.store.Datum.{Datum}
 use Rattle.fore_base.specs.Lists.{IsIn, Every, IsDistinct, Paired}
 use Rattle.fore_base.specs.Marks.{IsMarked, MarksOf, all_marked}
 use Rattle.fore_base.proofs.ListLemmas.{in_left, in_right, in_append, in_at, take_item, distinct_push, partner_of}
-use Rattle.fore_base.proofs.ListLemmas.{partner_for}
+use Rattle.fore_base.proofs.ListLemmas.{partner_for, every_weaker}
 use Rattle.fore_base.proofs.MarkLemmas.{all_from, all_to}
 use Rattle.ta_core.specs.Auto.{Automaton}
 use Rattle.ta_core.specs.Language.{InLanguage, HasTree, run, RunEach, run_none, run_more}
@@ -15,23 +15,23 @@ use Rattle.ta_core.specs.declared.symbol.Slot.{Slot}
 use Rattle.ta_core.specs.declared.symbol.Symbol.{Symbol}
 use Rattle.ta_core.specs.declared.symbol.Symbol.TheVariants.{Null, Uninit, Dangling, Ref, Cell}
 use Rattle.ta_core.specs.declared.tree.Tree.{Tree, Tree-F, out-Tree, out-roll-Tree}
-use Rattle.ta_core.proofs.Runs.{tree_of, run_tree}
+use Rattle.ta_core.proofs.Runs.{tree_of, run_tree, trees_of}
 use Rattle.fa_core.specs.Cells.{is_leaf}
 use Rattle.fa_filling.specs.declared.parts.Part.{Part}
 use Rattle.fa_filling.specs.Parted.{is_of, rules_of, RunBy, IsPartOf, IsRootRule, AreTopRules, AreStructsOf}
 use Rattle.fa_filling.specs.Parted.{HasLeafRule, IsAdded, IsPartFor, HasLeaf, AreParts}
 
 module _ (a : Automaton) (marks : List Bool) (m : MarksOf a.states (HasTree a.rules) marks) where
-  trees_each : (qs : List ℕ) → Every (IsMarked marks) qs → (ts : List Tree) × RunEach a.rules qs ts
-  trees_each [] h = ([], run_none)
-  trees_each (q ∷ qs) h = let t = m.only q h.0 in let ts = trees_each qs h.1 in (t.0 ∷ ts.0, run_more t.1 ts.1)
-
   each_marked : {qs : List ℕ} {ts : List Tree} → RunEach a.rules qs ts → Every (IsMarked marks) qs
   each_marked run_none = tt
   each_marked (run_more {q = q} {t = t} r rs) = (m.each q (t, r), each_marked rs)
 
   pub top_from : (r : Rule) → IsIn r.state a.roots × (all_marked marks r.children ≡ true) → IsRootRule a r
-  top_from r h = (h.0, trees_each r.children (all_from marks r.children h.1))
+  top_from r h = (
+    h.0,
+    trees_of a.rules r.children
+        (every_weaker (IsMarked marks) (HasTree a.rules) r.children m.only (all_from marks r.children h.1)),
+  )
 
   pub top_to : (r : Rule) → IsRootRule a r → IsIn r.state a.roots × (all_marked marks r.children ≡ true)
   top_to r h = (h.0, all_to marks r.children (each_marked h.1.1))

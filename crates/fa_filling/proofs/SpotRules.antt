@@ -13,8 +13,8 @@ use Rattle.ta_core.specs.Arity.{child_slots, arity}
 use Rattle.ta_core.specs.Auto.{Automaton, IsRanked, IsRankedRule}
 use Rattle.ta_core.specs.Language.{InLanguage, HasTree, RunOf, run, RunEach, run_none, run_more, PassesBy, at_top}
 use Rattle.ta_core.specs.Language.{below, OnePasses, this_one, later_one, IsTrim}
-use Rattle.fore_base.proofs.ListLemmas.{every_in, in_every, every_append}
-use Rattle.ta_core.proofs.Runs.{tree_of, run_tree}
+use Rattle.fore_base.proofs.ListLemmas.{every_in, in_every, every_append, every_weaker}
+use Rattle.ta_core.proofs.Runs.{tree_of, run_tree, trees_of, passed_tree}
 use Rattle.fa_core.specs.declared.faces.BoxFace.{BoxFace}
 use Rattle.fa_core.specs.Ways.{given_by}
 use Rattle.fa_core.specs.Cells.{edges}
@@ -27,14 +27,8 @@ abbrev pub top_symbol : Tree → Symbol
 top_symbol t = (out-Tree t).symbol
 
 -- a state that takes part has a tree
-mutual
-  pub passed : (rules : List Rule) {q p : ℕ} {t : Tree} → PassesBy rules q p t → HasTree rules q
-  passed rules {q} {p} {t} (at_top e r) = (t, subst (λ (x : ℕ). RunOf rules x t) e r)
-  passed rules (below r i e s o) = passed_one rules o
-
-  passed_one : (rules : List Rule) {q : ℕ} {ps : List ℕ} {ts : List Tree} → OnePasses rules q ps ts → HasTree rules q
-  passed_one rules (this_one h rs) = passed rules h
-  passed_one rules (later_one r o) = passed_one rules o
+pub passed : (rules : List Rule) {q p : ℕ} {t : Tree} → PassesBy rules q p t → HasTree rules q
+passed rules h = passed_tree h
 
 module _ (bs : List BoxFace) where
   children_spots : (ss : List Slot) (ts : List Tree) → child_spots bs ss (map (spots bs) ts)
@@ -219,8 +213,7 @@ module _ (bs : List BoxFace) where
         -- each of the states has a tree; so each rule has one, with any symbols that its children may have
         module _ (trees : (q : ℕ) → q < n → HasTree rules q) where
           pub some_trees : (qs : List ℕ) → Every (λ q. q < n) qs → (ts : List Tree) × RunEach rules qs ts
-          some_trees [] h = ([], run_none)
-          some_trees (q ∷ qs) h = let t = trees q h.0 in let k = some_trees qs h.1 in (t.0 ∷ k.0, run_more t.1 k.1)
+          some_trees qs h = trees_of rules qs (every_weaker (λ q. q < n) (HasTree rules) qs trees h)
 
           symbol_tree : (q : ℕ) (y : Symbol) → SymbolsOf rules q y → (t : Tree) × RunOf rules q t
               × ((out-Tree t).symbol ≡ y)
@@ -329,4 +322,4 @@ module _ (bs : List BoxFace) where
     )
       where
         trees : (q : ℕ) → q < a.states → HasTree a.rules q
-        trees q l = let p = trim q l in passed a.rules p.3
+        trees q l = let p = trim q l in passed_tree p.3
