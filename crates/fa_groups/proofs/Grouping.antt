@@ -4,10 +4,10 @@ use Rattle.std.proofs.Common.{Result, Ok, Err, OnOk, OnErr, refl, sym, ap, ◌�
 use Rattle.std.specs.BTreeMap.{is_at, UpdatesBy}
 use Rattle.std.specs.Map.{lookup}
 use Rattle.std.specs.Option.{is_some}
-use Rattle.std.specs.Cmp.{nat_cmp_is}
+use Rattle.std.specs.Cmp.{Equal-is, nat_cmp_is}
 use Rattle.std.specs.Ordering.{is_eq, ordering_then}
 use Rattle.std.specs.declared.cmp.Ordering.{Ordering}
-use Rattle.std.specs.declared.cmp.Ordering.TheVariants.{Less, Equal, Greater}
+use Rattle.std.specs.declared.cmp.Ordering.TheVariants.{Equal}
 use Rattle.std.proofs.lemmas.Bool.{false≢true}
 use Rattle.std.proofs.lemmas.Map.Lookups.{exact_pairs, exact_unsigned}
 use Rattle.fore_base.specs.Lists.{IsIn}
@@ -17,14 +17,9 @@ use Rattle.fa_groups.specs.Grouped.{Key, Grouped, key_cmp, numbers_if, numbers_o
 one_key : (p q : Key) → key_cmp p q ≡ Equal → p ≡ q
 one_key = exact_pairs nat_cmp nat_cmp exact_unsigned exact_unsigned
 
-equal_from : (r : Ordering) → is_eq r ≡ true → r ≡ Equal
-equal_from Less e = absurd (false≢true e)
-equal_from Equal e = refl
-equal_from Greater e = absurd (false≢true e)
-
 -- the key is the other one
 same_key : (key other : Key) → is_at (key_cmp key) other ≡ true → other ≡ key
-same_key key other e = sym (one_key key other (equal_from (key_cmp key other) e))
+same_key key other e = sym (one_key key other ((Equal-is (key_cmp key other)).0 e))
 
 -- the key is at itself
 own_at : (key : Key) → is_at (key_cmp key) key ≡ true
