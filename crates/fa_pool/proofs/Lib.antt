@@ -1,4 +1,3 @@
-mod Equal
 mod Listing
 pub mod Numbers
 mod Rows

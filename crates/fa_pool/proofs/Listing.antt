@@ -1,11 +1,9 @@
 -- Numbers in the lists of keys: one list with a number more, and the numbers of automata by their keys.
 use Rattle.std.proofs.Common.{◌≡◌, ℕ, Bool, true, false, cond, List, [], ◌∷◌, ◌++◌, Some, None}
 use Rattle.std.proofs.Common.{Result, Ok, Err, OnOk, OnErr, refl, sym, ap, ◌∙◌, subst}
-use Rattle.std.specs.Ordering.{is_eq, nat_cmp}
-use Rattle.std.specs.declared.cmp.Ordering.{Ordering}
-use Rattle.std.specs.declared.cmp.Ordering.TheVariants.{Less, Equal, Greater}
+use Rattle.std.specs.Cmp.{Equal-is}
+use Rattle.std.specs.Ordering.{nat_cmp}
 use Rattle.std.specs.BTreeMap.{BTreeMap, get, is_at, UpdatesBy}
-use Rattle.std.proofs.lemmas.Bool.{false≢true}
 use Rattle.std.proofs.lemmas.Map.Lookups.{exact_unsigned}
 use Rattle.std.proofs.lemmas.Option.{none-some, same_Some}
 use Rattle.fore_base.specs.Lists.{IsIn}
@@ -14,18 +12,13 @@ use Rattle.ta_core.specs.Auto.{Automaton}
 use Rattle.fa_pool.specs.Indexes.{IsListed, MoreListed, IsIndexed}
 use Rattle.fa_pool.specs.Keys.{key_of}
 
-equal_from : (r : Ordering) → is_eq r ≡ true → r ≡ Equal
-equal_from Less e = absurd (false≢true e)
-equal_from Equal e = refl
-equal_from Greater e = absurd (false≢true e)
-
 module _ (before after : BTreeMap ℕ (List ℕ)) (key : ℕ) (old new : List ℕ) (was : get nat_cmp before key ≡ Some old)
     (is : UpdatesBy nat_cmp (nat_cmp key) before after (Some new)) where
   module _ (stay : (n : ℕ) → IsIn n old → IsIn n new) where
     listed_at : (other n : ℕ) (same : Bool) → is_at (nat_cmp key) other ≡ same → IsListed before other n
         → IsListed after other n
     listed_at other n true e h =
-        let one : key ≡ other = exact_unsigned key other (equal_from (nat_cmp key other) e) in
+        let one : key ≡ other = exact_unsigned key other ((Equal-is (nat_cmp key other)).0 e) in
         let own : h.0 ≡ old =
         same_Some h.0 old (sym h.1 ∙ ap (get nat_cmp before) (sym one) ∙ was) in
         (new, is.0 other ∙ ap (λ b. cond b (Some new) (get nat_cmp before other)) e, stay n (subst (IsIn n) own h.2))

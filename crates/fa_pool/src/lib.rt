@@ -8,7 +8,6 @@
 //! Automata are one where they are equal as values: states, root states and rules in their order.
 #![tactic(auto)]
 
-mod comparing;
 pub mod crossing;
 pub mod indexes;
 pub mod kept;

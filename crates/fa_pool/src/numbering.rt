@@ -8,13 +8,13 @@ ghost use Rattle.fa_pool.specs.Keys.{key_of};
 ghost use Rattle.fa_pool.specs.Pools.{IsNumber};
 ghost use Rattle.fa_pool.specs.inner.Numbered.{AreNumbered, IsPut};
 
-use crate::comparing::is_same;
 use crate::indexes::{Index, add};
 use crate::keys::key_of;
 use fore_base::list::{Copies, List};
 use fore_base::memory::Mem;
 use std::alloc::Global;
 use ta_core::auto::Auto;
+use ta_incl::are_equal;
 
 /// The numbers of automata, and equal ones of those that the pool does not have, in memory of their own.
 #[derive(Drop)]
@@ -97,7 +97,7 @@ fn is_number(held: &[Auto], more: &[Auto], number: usize, auto: &Auto) -> bool
     ensures { IsTrue result ↔ IsNumber (held.now ++ more.now) number auto.now }
 {
     match auto_at(held, more, number) {
-        Some(other) => is_same(other, auto),
+        Some(other) => are_equal(other, auto),
         None => false,
     }
 }

@@ -20,5 +20,5 @@ returns c =
 
 pub returns-then-are_equal : goal.returns-then-are_equal
 returns-then-are_equal c =
-    let e = c.are_equal.ensures c.if-are_equal.true in
+    let e = c.are_equal.ensures.0 c.if-are_equal.true in
     (λ _. subst (IsWithin c.args.left.now) e (λ t l. l), λ _. refl)
