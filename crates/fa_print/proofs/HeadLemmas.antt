@@ -1,10 +1,8 @@
 -- The heads of the facts of dressed forests are of the structs of the face, with their data.
-use Rattle.std.proofs.Common.{◌≡◌, ℕ, zero, suc, ◌<◌, List, [], ◌∷◌, ◌++◌, Some, None, length, sym, subst}
-use Rattle.std.proofs.Common.{length-append, Option, refl, arith, inl, inr, ◌⊎◌, ◌≤◌}
-use Rattle.std.proofs.Common.{append_assoc, true≢false}
-use Rattle.std.proofs.Math.Nat.{eq-or-lt_of_le}
+use Rattle.std.proofs.Common.{◌≡◌, ℕ, ◌<◌, List, [], ◌∷◌, ◌++◌, Some, None, length, sym, subst}
+use Rattle.std.proofs.Common.{Option, refl, arith, inl, inr, ◌⊎◌}
+use Rattle.std.proofs.Common.{true≢false}
 use Rattle.std.specs.Prelude.{IsSome, IsNone}
-use Rattle.std.proofs.lemmas.Option.{same_Some}
 use Rattle.fore_base.specs.Lists.{IsIn, Every}
 use Rattle.fore_base.specs.Shapes.{datums_of}
 use Rattle.fore_base.specs.declared.shape.Shape.{Shape}
@@ -17,6 +15,7 @@ use Rattle.ta_core.specs.Auto.{Automaton}
 use Rattle.ta_core.specs.declared.auto.Rule.{Rule}
 use Rattle.ta_core.specs.declared.symbol.Symbol.TheVariants.{Cell as CellSymbol}
 use Rattle.fa_core.specs.declared.boxes.BoxDef.{BoxDef}
+use Rattle.fa_core.specs.declared.faces.BoxFace.{BoxFace}
 use Rattle.fa_core.specs.declared.faces.Face.{Face}
 use Rattle.fa_core.specs.Boxes.{IsChild, PortRulesFit, PortSymbolFits, InsideRulesFit, SoundBox}
 use Rattle.fa_core.specs.Boxes.{AreSoundOver, faces_of, port_fields}
@@ -26,6 +25,7 @@ use Rattle.fa_core.specs.Dressed.{forest_facts, with_ports, inside_facts}
 use Rattle.fa_core.specs.Filled.{HasOutput, HasNoOutput, face_of, SlotFits, SymbolFits, RulesFit}
 use Rattle.fa_core.specs.Member.{TreesOf, InsidesOf, InsidesOfParts, InsidesOfEnd, inside_of, slots_of}
 use Rattle.fa_core.proofs.NodeRuns.{NodeRun, PartsRun, EndRun, bare_node}
+use Rattle.fa_facts.proofs.Tables.{face_of_table, face_before, face_next, inside_next, each_box}
 
 -- the struct is there, and has as many data
 abbrev pub HeadFits : List Shape → Fact → Type 0
@@ -142,8 +142,8 @@ module _ (face : Face) (T : List BoxDef)
 -- All boxes of a table.
 
 module _ (shapes : Shapes) where
-  abbrev face_of_table : List BoxDef → Face
-  face_of_table T = record { shapes = shapes; boxes = faces_of T }
+  abbrev face_at : List BoxDef → Face
+  face_at T = face_of_table shapes T
 
   -- the heads in the insides of box b, which has an output, or none
   abbrev pub BoxHeads : List BoxDef → ℕ → Type 0
@@ -151,38 +151,13 @@ module _ (shapes : Shapes) where
       (HasOutput (face_of (faces_of T) b) → LinkHeads shapes.structs T b)
       × (HasNoOutput (face_of (faces_of T) b) → HookHeads shapes.structs T b)
 
-  inside_next : (before : List BoxDef) (d : BoxDef) (defs : List BoxDef) (autos : List Automaton)
-      → inside_of (before ++ (d ∷ defs)) (length before) ≡ Some autos → d.inside.autos ≡ autos
-  inside_next [] d defs autos e = same_Some d.inside.autos autos e
-  inside_next (b ∷ before) d defs autos e = inside_next before d defs autos e
-
-  face_next : (before : List BoxDef) (d : BoxDef) (defs : List BoxDef)
-      → face_of (faces_of (before ++ (d ∷ defs))) (length before) ≡ Some d.face
-  face_next [] d defs = refl
-  face_next (b ∷ before) d defs = face_next before d defs
-
-  -- what is said of the face of a box before, is said of it among all
-  output_before : (before defs : List BoxDef) (b : ℕ) → HasOutput (face_of (faces_of before) b)
-      → (b < length before) × HasOutput (face_of (faces_of (before ++ defs)) b)
-  output_before [] defs b h = absurd h
-  output_before (d ∷ before) defs zero h = (omega arith, h)
-  output_before (d ∷ before) defs (suc b) h =
-      let k = output_before before defs b h in let l = k.0 in (omega (arith, l), k.1)
-
-  no_output_before : (before defs : List BoxDef) (b : ℕ) → HasNoOutput (face_of (faces_of before) b)
-      → (b < length before) × HasNoOutput (face_of (faces_of (before ++ defs)) b)
-  no_output_before [] defs b h = absurd h
-  no_output_before (d ∷ before) defs zero h = (omega arith, h)
-  no_output_before (d ∷ before) defs (suc b) h =
-      let k = no_output_before before defs b h in let l = k.0 in (omega (arith, l), k.1)
-
-  module _ (before : List BoxDef) (d : BoxDef) (defs : List BoxDef) (sound : SoundBox (face_of_table before) before d)
+  module _ (before : List BoxDef) (d : BoxDef) (defs : List BoxDef) (sound : SoundBox (face_at before) before d)
       (lower : (b : ℕ) → b < length before → BoxHeads (before ++ (d ∷ defs)) b) where
     links : (b : ℕ) → HasOutput (face_of (faces_of before) b) → LinkHeads shapes.structs (before ++ (d ∷ defs)) b
-    links b h = let k = output_before before (d ∷ defs) b h in (lower b k.0).0 k.1
+    links b h = let k = face_before HasOutput (λ n. n) before (d ∷ defs) b h in (lower b k.0).0 k.1
 
     hooks : (b : ℕ) → HasNoOutput (face_of (faces_of before) b) → HookHeads shapes.structs (before ++ (d ∷ defs)) b
-    hooks b h = let k = no_output_before before (d ∷ defs) b h in (lower b k.0).1 k.1
+    hooks b h = let k = face_before HasNoOutput (λ n. n) before (d ∷ defs) b h in (lower b k.0).1 k.1
 
     -- the inside of the next box, with as many ports as it has
     inside_fits : (autos : List Automaton) (i : Nodes) (values : List Value)
@@ -191,8 +166,7 @@ module _ (shapes : Shapes) where
         → HeadsFit shapes.structs (inside_facts values i)
     inside_fits autos i values e s h =
         let k = inside_next before d defs autos s in
-        ports_fit (face_of_table before) (before
-        ++ (d ∷ defs)) links hooks (with_ports values i) d.inside.autos i values
+        ports_fit (face_at before) (before ++ (d ∷ defs)) links hooks (with_ports values i) d.inside.autos i values
         (port_fields d.face d.face.output) e sound.rules
         (subst (λ (xs : List Automaton). TreesOf (before ++ (d ∷ defs)) xs i) (sym k) h)
 
@@ -212,44 +186,16 @@ module _ (shapes : Shapes) where
           (one_port d.face.output (subst HasNoOutput (face_next before d defs) h)) s trees,
     )
 
-  all_heads : (before defs : List BoxDef) → AreSoundOver shapes before defs
-      → ((b : ℕ) → b < length before → BoxHeads (before ++ defs) b) → (b : ℕ) → b < length (before ++ defs)
-      → BoxHeads (before ++ defs) b
-  all_heads before [] h lower b l = lower b (let e = length-append before [] in omega (arith, e, l))
-  all_heads before (d ∷ defs) h lower b l =
-      let e : (before ++ (d ∷ [])) ++ defs ≡ before ++ (d ∷ defs) = append_assoc before (d ∷ []) defs in
-      subst (λ (T : List BoxDef). BoxHeads T b) e
-      (all_heads (before ++ (d ∷ [])) defs h.1
-      (λ k n. subst (λ (T : List BoxDef). BoxHeads T k) (sym e)
-      (either k (let z = length-append before (d ∷ []) in omega (arith, z, n))))
-      b (subst (λ (T : List BoxDef). b < length T) (sym e) l))
-    where
-      either : (k : ℕ) → k < suc (length before) → BoxHeads (before ++ (d ∷ defs)) k
-      either k n = elim (eq-or-lt_of_le (below_next k (length before) n)) [
-        | inl q ↦ subst (λ (z : ℕ). BoxHeads (before ++ (d ∷ defs)) z) (sym q) (next_heads before d defs h.0 lower)
-        | inr l ↦ lower k l
-      ]
-        where
-          below_next : (j m : ℕ) → j < suc m → j ≤ m
-          below_next j m a = omega (arith, a)
-
   box_heads : (T : List BoxDef) → AreSoundOver shapes [] T → (b : ℕ) → b < length T → BoxHeads T b
-  box_heads T h b l = all_heads [] T h (λ k n. absurd (omega (arith, n))) b l
+  box_heads T h b l = each_box shapes BoxHeads next_heads T h b l
 
   -- the heads of the trees of a filled forest over a sound table
   pub heads_fit : (T : List BoxDef) → AreSoundOver shapes [] T → (autos : List Automaton)
-      → Every (RulesFit (face_of_table T)) autos → (ns : Nodes) → TreesOf T autos ns → (vs : List Value)
+      → Every (RulesFit (face_at T)) autos → (ns : Nodes) → TreesOf T autos ns → (vs : List Value)
       → HeadsFit shapes.structs (forest_facts vs [] ns)
   heads_fit T h autos f ns trees vs =
-      trees_fit (face_of_table T) T (λ b o. (box_heads T h b (there T b o)).0 o)
-      (λ b o. (box_heads T h b (no_there T b o)).1 o) vs autos ns f trees
+      trees_fit (face_at T) T (λ b o. (box_heads T h b (there HasOutput (λ n. n) b o)).0 o)
+      (λ b o. (box_heads T h b (there HasNoOutput (λ n. n) b o)).1 o) vs autos ns f trees
     where
-      there : (T : List BoxDef) (b : ℕ) → HasOutput (face_of (faces_of T) b) → b < length T
-      there [] b h = absurd h
-      there (d ∷ T) zero h = omega arith
-      there (d ∷ T) (suc b) h = let l = there T b h in omega (arith, l)
-
-      no_there : (T : List BoxDef) (b : ℕ) → HasNoOutput (face_of (faces_of T) b) → b < length T
-      no_there [] b h = absurd h
-      no_there (d ∷ T) zero h = omega arith
-      no_there (d ∷ T) (suc b) h = let l = no_there T b h in omega (arith, l)
+      there : (P : Option BoxFace → Type 0) → (P None → ⊥) → (b : ℕ) → P (face_of (faces_of T) b) → b < length T
+      there P none b h = (face_before P none T [] b h).0

@@ -306,22 +306,6 @@ cell_apart shape ds slots h =
 
 -- Terms
 
-literal_null : IsRun (codes "null")
-unfolding is_word_byte is_letter is_digit
-literal_null = (refl, refl)
-
-literal_uninit : IsRun (codes "uninit")
-unfolding is_word_byte is_letter is_digit
-literal_uninit = (refl, refl)
-
-literal_dangling : IsRun (codes "dangling")
-unfolding is_word_byte is_letter is_digit
-literal_dangling = (refl, refl)
-
-literal_ref : IsRun (codes "ref")
-unfolding is_word_byte is_letter is_digit
-literal_ref = (refl, refl)
-
 nothing : Cut [] []
 nothing = (refl, tt)
 
@@ -329,11 +313,12 @@ only : (w : List ℕ) → IsRun w → Cut w (w ∷ [])
 only w h = subst (λ bytes. Cut bytes (w ∷ [])) (append-nil w) (cut_run w [] [] h refl nothing)
 
 cut_term : (t : Term) → IsTerm t → Cut (term_text t) (term_pieces t)
-cut_term Null h = only (codes "null") literal_null
-cut_term Uninit h = only (codes "uninit") literal_uninit
-cut_term Dangling h = only (codes "dangling") literal_dangling
+unfolding is_word_byte is_letter is_digit
+cut_term Null h = only (codes "null") (refl, refl)
+cut_term Uninit h = only (codes "uninit") (refl, refl)
+cut_term Dangling h = only (codes "dangling") (refl, refl)
 cut_term (Ref r) h =
-    cut_run (codes "ref") (32 ∷ decimal r) (decimal r ∷ []) literal_ref no_word
+    cut_run (codes "ref") (32 ∷ decimal r) (decimal r ∷ []) (refl, refl) no_word
     (cut_space (decimal r) (decimal r ∷ []) (only (decimal r) (number_run r (omega (arith, h)))))
 cut_term (Cell shape ds slots) h =
     let ps = term_pieces (Cell shape ds slots) in
@@ -360,26 +345,6 @@ next_states [] h = nothing
 next_states (q ∷ qs) h =
     next_word (state_text q) (map state_text qs) (map state_text qs) (state_run q h.0) (next_states qs h.1)
 
-literal_box : IsRun (codes "box")
-unfolding is_word_byte is_letter is_digit
-literal_box = (refl, refl)
-
-literal_in : IsRun (codes "in")
-unfolding is_word_byte is_letter is_digit
-literal_in = (refl, refl)
-
-literal_out : IsRun (codes "out")
-unfolding is_word_byte is_letter is_digit
-literal_out = (refl, refl)
-
-literal_root : IsRun (codes "root")
-unfolding is_word_byte is_letter is_digit
-literal_root = (refl, refl)
-
-literal_end : IsRun (codes "end")
-unfolding is_word_byte is_letter is_digit
-literal_end = (refl, refl)
-
 -- words with a space between two
 abbrev body : Texts → List ℕ
 body [] = []
@@ -401,22 +366,25 @@ line_is (Rule q term) = refl
 line_is Ends = refl
 
 cut_output : (output : Option (List ℕ)) → IsOutput output → Cut (behind (output_pieces output)) (output_pieces output)
+unfolding is_word_byte is_letter is_digit
 cut_output None h = nothing
 cut_output (Some name) h =
-    next_word (codes "out") (name ∷ []) (name ∷ []) literal_out (next_word name [] [] (name_run name h) nothing)
+    next_word (codes "out") (name ∷ []) (name ∷ []) (refl, refl) (next_word name [] [] (name_run name h) nothing)
 
 cut_opens : (name input : List ℕ) (output : Option (List ℕ)) → IsLine (Opens name input output)
     → Cut (body (words_of (Opens name input output))) (line_pieces (Opens name input output))
+unfolding is_word_byte is_letter is_digit
 cut_opens name input output h =
     let out = output_pieces output in
-    first_word (codes "box") (name ∷ codes "in" ∷ input ∷ out) (name ∷ codes "in" ∷ input ∷ out) literal_box
+    first_word (codes "box") (name ∷ codes "in" ∷ input ∷ out) (name ∷ codes "in" ∷ input ∷ out) (refl, refl)
     (next_word name (codes "in" ∷ input ∷ out) (codes "in" ∷ input ∷ out) (name_run name h.0)
-    (next_word (codes "in") (input ∷ out) (input ∷ out) literal_in
+    (next_word (codes "in") (input ∷ out) (input ∷ out) (refl, refl)
     (next_word input out out (name_run input h.1) (cut_output output h.2))))
 
 cut_root : (r : ℕ) (qs : List ℕ) → IsLine (Root r qs) → Cut (body (words_of (Root r qs))) (line_pieces (Root r qs))
+unfolding is_word_byte is_letter is_digit
 cut_root r qs h =
-    first_word (codes "root") (decimal r ∷ map state_text qs) (decimal r ∷ map state_text qs) literal_root
+    first_word (codes "root") (decimal r ∷ map state_text qs) (decimal r ∷ map state_text qs) (refl, refl)
     (next_word (decimal r) (map state_text qs) (map state_text qs) (number_run r (omega (arith, h.0)))
     (next_states qs h.2))
 
@@ -430,12 +398,13 @@ cut_rule q t h =
     (cut_space (term_text t ++ []) (term_pieces t) term)))
 
 said : (l : Line) → IsLine l → Says (body (words_of l)) l × Every NoBreak (body (words_of l))
+unfolding is_word_byte is_letter is_digit
 said Skipped h = (tt, tt)
 said (Opens name input output) h =
     let c = cut_opens name input output h in ((h, c.0), c.1)
 said (Root r qs) h = let c = cut_root r qs h in ((h, c.0), c.1)
 said (Rule q t) h = let c = cut_rule q t h in ((h, c.0), c.1)
-said Ends h = let c = only (codes "end") literal_end in ((h, c.0), c.1)
+said Ends h = let c = only (codes "end") (refl, refl) in ((h, c.0), c.1)
 
 -- Texts of lines
 
