@@ -1,17 +1,18 @@
 -- The walk ends: each visit takes away from the visits that are left.
 use Rattle.std.proofs.Common.{◌≡◌, ◌≢◌, ℕ, zero, suc, ◌<◌, ◌≤◌, ◌+◌, ◌-◌, take, get_or, append_assoc, Bool, true, false}
-use Rattle.std.proofs.Common.{◌||◌, true≢false, nat_eq, cond, length, List, [], ◌∷◌, ◌++◌, refl, sym, ap, subst, ◌∙◌}
+use Rattle.std.proofs.Common.{◌||◌, nat_eq, cond, length, List, [], ◌∷◌, ◌++◌, refl, sym, ap, subst, ◌∙◌}
 use Rattle.std.proofs.Common.{reverse, slice_get, Some, not-suc-le-zero, le_of_suc-le-suc, arith}
 use Rattle.std.proofs.lemmas.Bool.{eqb-true, eq-eqb}
 use Rattle.std.proofs.lemmas.List.{length-append, reverse-append, take_more}
-use Rattle.std.proofs.lemmas.Option.{none-some, same_Some}
-use Rattle.fore_base.specs.Lists.{Every}
+use Rattle.std.proofs.lemmas.Option.{none-some, same_Some, slice_get_within}
+use Rattle.fore_base.specs.Lists.{IsIn, Every}
+use Rattle.fore_base.proofs.ListLemmas.{every_in, in_from_place}
 use Rattle.fa_core.specs.References.{AllBelow}
 use Rattle.fa_core.specs.Ways.{has}
-use Rattle.fa_back.proofs.RootMarks.{has_in, in_has}
-use Rattle.fa_core.specs.declared.signature.Signature.{Signature}
+use Rattle.fa_core.proofs.Counts.{below_both}
+use Rattle.fa_back.proofs.RootMarks.{has_in}
 use Rattle.fa_order.specs.Placing.{PlacingOn, is_placed, place_now}
-use Rattle.fa_order.specs.inner.Backs.{GivesBy, LeadsBy}
+use Rattle.fa_order.specs.Visits.{IsVisit, was_placed, placed_now}
 use Rattle.fa_order.specs.inner.Stacks.{nth_refs, unplaced, weight}
 
 -- a stack from its top down, with one root more
@@ -66,42 +67,57 @@ unplaced_push (rs ∷ rss) (suc j) k r placed e l h =
     add : (x u v w : ℕ) → u + v ≡ w → x + u + v ≡ x + w
     add x u v w e = omega (arith, e)
 
--- a root that is placed already
-pub visit_old : (refers : List (List ℕ)) (r : ℕ) (todo placed : List ℕ) → has r placed ≡ true
-    → ((ss : List Signature) (order : List ℕ)
-    → PlacingOn (nth_refs refers) (LeadsBy ss) (GivesBy ss) todo placed order
-    → PlacingOn (nth_refs refers) (LeadsBy ss) (GivesBy ss) (r ∷ todo) placed order)
-    × (weight refers todo placed < weight refers (r ∷ todo) placed)
-visit_old refers r todo placed h = (
-  (λ ss order w. is_placed (has_in r placed h) w),
-  (let g : length todo + unplaced refers 0 placed < suc (length todo) + unplaced refers 0 placed = omega arith in g),
-)
-
--- a root that is placed now
-pub visit_new : (refers : List (List ℕ)) (r : ℕ) (todo placed : List ℕ) → r < length refers → has r placed ≡ false
-    → ((ss : List Signature) (order : List ℕ)
-    → PlacingOn (nth_refs refers) (LeadsBy ss) (GivesBy ss) (nth_refs refers r ++ todo) (placed ++ r ∷ []) order
-    → PlacingOn (nth_refs refers) (LeadsBy ss) (GivesBy ss) (r ∷ todo) placed order)
-    × (weight refers (nth_refs refers r ++ todo) (placed ++ r ∷ []) < weight refers todo placed)
-visit_new refers r todo placed l h = (
-  (λ ss order w. place_now (λ i. true≢false (sym (in_has r placed i) ∙ h)) w),
-  (let a = unplaced_push refers r 0 r placed (omega arith) l h in
-      let b : length (nth_refs refers r ++ todo) ≡ length (nth_refs refers r) + length todo =
-      length-append (nth_refs refers r) todo in
-      let g : length (nth_refs refers r ++ todo) + unplaced refers 0 (placed ++ r ∷ [])
-      < length todo + unplaced refers 0 placed = omega (arith, a, b) in g),
-)
-
-pub one_less : (refers : List (List ℕ)) (r m : ℕ) (todo placed : List ℕ) → m < weight refers todo placed
-    → m < weight refers (r ∷ todo) placed
-one_less refers r m todo placed l =
-    let g : m < length todo + unplaced refers 0 placed = l in
-    let h : m < suc (length todo) + unplaced refers 0 placed = omega (arith, g) in h
-
 pub refs_below : (n : ℕ) (rss : List (List ℕ)) (r : ℕ) → Every (AllBelow n) rss → AllBelow n (nth_refs rss r)
 refs_below n [] r h = tt
 refs_below n (rs ∷ rss) zero h = h.0
 refs_below n (rs ∷ rss) (suc r) h = refs_below n rss r h.1
+
+-- What a visit does.
+
+module _ (refers : List (List ℕ)) (r : ℕ) (todo placed : List ℕ) where
+  -- it takes away from what is left, where the root was not placed
+  pub visit_anew : {next now : List ℕ} → IsVisit refers r todo placed next now → (IsIn r placed → ⊥)
+      → weight refers next now < weight refers todo placed
+  visit_anew (was_placed i) o = absurd (o i)
+  visit_anew (placed_now {rs = rs} o e) p =
+      let a = unplaced_push refers r 0 r placed (omega arith) (slice_get_within refers r rs e) (new (has r placed) refl)
+      in
+      let b : length (rs ++ todo) ≡ length rs + length todo = length-append rs todo in
+      let n : length rs ≡ length (nth_refs refers r) = ap length (nth_got refers r rs e) in
+      let g : length (rs ++ todo) + unplaced refers 0 (placed ++ r ∷ []) < length todo + unplaced refers 0 placed =
+      omega (arith, a, b, n) in g
+    where
+      new : (b : Bool) → has r placed ≡ b → has r placed ≡ false
+      new true h = absurd (o (has_in r placed h))
+      new false h = h
+
+  -- and from what was left with the root
+  pub visit_falls : {next now : List ℕ} → IsVisit refers r todo placed next now
+      → weight refers next now < weight refers (r ∷ todo) placed
+  visit_falls (was_placed i) =
+      let g : length todo + unplaced refers 0 placed < suc (length todo) + unplaced refers 0 placed = omega arith in g
+  visit_falls (placed_now {rs = rs} o e) =
+      let l : length (rs ++ todo) + unplaced refers 0 (placed ++ r ∷ []) < length todo + unplaced refers 0 placed =
+      visit_anew (placed_now o e) o in
+      let g : length (rs ++ todo) + unplaced refers 0 (placed ++ r ∷ []) < suc (length todo) + unplaced refers 0 placed
+      = omega (arith, l) in g
+
+  -- the roots to be visited stay below n
+  pub visit_below : {next now : List ℕ} (n : ℕ) → IsVisit refers r todo placed next now → Every (AllBelow n) refers
+      → AllBelow n todo → AllBelow n next
+  visit_below n (was_placed i) f h = h
+  visit_below n (placed_now {rs = rs} o e) f h =
+      below_both n rs todo (every_in (AllBelow n) refers rs f (in_from_place refers r rs e)) h
+
+  -- the walk that goes on behind it is the walk with the visit
+  pub visit_goes : {next now : List ℕ} (Leads Gives : ℕ → ℕ → ℕ → Type 0) → IsVisit refers r todo placed next now
+      → (order : List ℕ) → PlacingOn (nth_refs refers) Leads Gives next now order
+      → PlacingOn (nth_refs refers) Leads Gives (r ∷ todo) placed order
+  visit_goes Leads Gives (was_placed i) order w = is_placed i w
+  visit_goes Leads Gives (placed_now {rs = rs} o e) order w =
+      place_now o
+      (subst (λ (z : List ℕ). PlacingOn (nth_refs refers) Leads Gives (z ++ todo) (placed ++ r ∷ []) order)
+      (nth_got refers r rs e) w)
 
 -- the last of the first i items put before the rest
 pub step_down : (xs : List ℕ) (i : ℕ) (rest : List ℕ) → 0 < i → i ≤ length xs → take (i - 1) xs

@@ -1,4 +1,5 @@
 pub mod Kinds
 pub mod Outlines
 pub mod Placing
+pub mod Visits
 pub mod inner

@@ -18,4 +18,4 @@ pub use reducing::reduce_forest;
 pub use referring::{marked_roots, references, root_signatures};
 pub use roots::place_roots;
 pub use sharing::is_shared_root;
-pub use walking::push_all;
+pub use walking::{push_all, visit};

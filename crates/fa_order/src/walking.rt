@@ -1,12 +1,12 @@
 // The walk that places the roots, by a stack of roots to be visited and by ways back where it is empty.
 
-ghost use Rattle.std.specs.Prelude.{◌≡◌, ◌<◌, ◌^◌, ◌++◌, ◌∷◌, [], ℕ, List, length, IfOk, OnOk, reverse};
-ghost use Rattle.fore_base.specs.Lists.{IsIn, Every};
+ghost use Rattle.std.specs.Prelude.{◌≡◌, ◌<◌, ◌^◌, ◌++◌, [], length, IfOk, OnOk, reverse};
+ghost use Rattle.fore_base.specs.Lists.{Every};
 ghost use Rattle.fa_core.specs.References.{AllBelow};
-ghost use Rattle.fa_core.specs.declared.signature.Signature.{Signature};
 ghost use Rattle.fa_order.specs.Placing.{PlacingOn};
+ghost use Rattle.fa_order.specs.Visits.{IsVisit};
 ghost use Rattle.fa_order.specs.inner.Backs.{AreLedWithin, GivesBy, IsNext, LeadsBy};
-ghost use Rattle.fa_order.specs.inner.Stacks.{nth_refs, weight};
+ghost use Rattle.fa_order.specs.inner.Stacks.{nth_refs};
 
 use crate::ways_back::next_led;
 use fa_core::cells::has;
@@ -59,39 +59,24 @@ fn next_visit(
     }
 }
 
-/// Visits the root: where it is not placed yet it is placed, and the roots to which it refers are to be visited.
-fn visit(
+/// Visits the root: where it is not placed yet it is placed, and the roots to which it refers are put on the stack. Err
+/// is want of memory.
+pub fn visit(
     stack: &mut List<u32>,
     placed: &mut List<u32>,
     refers: &List<List<u32>>,
     root: u32,
 ) -> Mem<()>
     requires { root < length refers.now }
-    ensures goes { OnOk result ((ss : List Signature) (order : List ℕ)
-        → PlacingOn (nth_refs refers.now) (LeadsBy ss) (GivesBy ss) (reverse stack.new) placed.new order
-        → PlacingOn (nth_refs refers.now) (LeadsBy ss) (GivesBy ss) (root ∷ reverse stack.old) placed.old order) }
-    ensures falls { OnOk result (weight refers.now (reverse stack.new) placed.new
-        < weight refers.now (root ∷ reverse stack.old) placed.old) }
-    ensures anew { OnOk result ((IsIn root placed.old → ⊥) → weight refers.now (reverse stack.new) placed.new
-        < weight refers.now (reverse stack.old) placed.old) }
-    ensures below { OnOk result (Every (AllBelow (length refers.now)) refers.now
-        → AllBelow (length refers.now) (reverse stack.old) → AllBelow (length refers.now) (reverse stack.new)) }
+    ensures { OnOk result (IsVisit refers.now root (reverse stack.old) placed.old (reverse stack.new) placed.new) }
 {
     if has(root, placed.as_slice()) {
         Ok(())
     } else {
         placed.push(root)?;
-        push_refs(stack, refers, root)?;
+        push_all(stack, refers.at(root as usize).as_slice())?;
         Ok(())
     }
-}
-
-fn push_refs(stack: &mut List<u32>, refers: &List<List<u32>>, root: u32) -> Mem<()>
-    requires { root < length refers.now }
-    ensures { OnOk result (reverse stack.new ≡ nth_refs refers.now root ++ reverse stack.old) }
-{
-    push_all(stack, refers.at(root as usize).as_slice())?;
-    Ok(())
 }
 
 /// Puts the roots on the stack so that the first of them is on top. Err is want of memory.

@@ -1,15 +1,14 @@
 // The walk that finds the roots of a part.
 
-ghost use Rattle.std.specs.Prelude.{◌≡◌, ◌<◌, ◌≤◌, ◌∷◌, ◌++◌, ℕ, List, drop, length, IfOk, OnOk, reverse};
+ghost use Rattle.std.specs.Prelude.{◌≡◌, ◌≤◌, ◌++◌, drop, length, IfOk};
 ghost use Rattle.fore_base.specs.Lists.{Every};
 ghost use Rattle.fa_core.specs.Folding.{Placing};
 ghost use Rattle.fa_core.specs.References.{AllBelow};
-ghost use Rattle.fa_order.specs.inner.Stacks.{nth_refs, weight};
+ghost use Rattle.fa_order.specs.inner.Stacks.{nth_refs};
 ghost use Rattle.fa_part.specs.inner.Found.{IsPartOrder};
 
 use crate::referring::root_refs;
-use fa_core::cells::has;
-use fa_order::push_all;
+use fa_order::{push_all, visit};
 use fa_sound::Sound;
 use fore_base::list::{Copies, List};
 use fore_base::memory::Mem;
@@ -65,37 +64,4 @@ fn visited(
         visit(&mut stack, &mut placed, refers, root)?;
     }
     Ok(placed)
-}
-
-/// Visits the root: where it is not placed yet it is placed, and the roots to which it refers are to be visited.
-fn visit(
-    stack: &mut List<u32>,
-    placed: &mut List<u32>,
-    refers: &List<List<u32>>,
-    root: u32,
-) -> Mem<()>
-    requires { root < length refers.now }
-    ensures goes { OnOk result ((order : List ℕ)
-        → Placing (nth_refs refers.now) (reverse stack.new) placed.new order
-        → Placing (nth_refs refers.now) (root ∷ reverse stack.old) placed.old order) }
-    ensures falls { OnOk result (weight refers.now (reverse stack.new) placed.new
-        < weight refers.now (root ∷ reverse stack.old) placed.old) }
-    ensures below { OnOk result (Every (AllBelow (length refers.now)) refers.now
-        → AllBelow (length refers.now) (reverse stack.old) → AllBelow (length refers.now) (reverse stack.new)) }
-{
-    if has(root, placed.as_slice()) {
-        Ok(())
-    } else {
-        placed.push(root)?;
-        push_refs(stack, refers, root)?;
-        Ok(())
-    }
-}
-
-fn push_refs(stack: &mut List<u32>, refers: &List<List<u32>>, root: u32) -> Mem<()>
-    requires { root < length refers.now }
-    ensures { OnOk result (reverse stack.new ≡ nth_refs refers.now root ++ reverse stack.old) }
-{
-    push_all(stack, refers.at(root as usize).as_slice())?;
-    Ok(())
 }
