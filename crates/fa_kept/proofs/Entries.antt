@@ -2,7 +2,7 @@
 use Rattle.std.proofs.Common.{◌≡◌, inl, inr, ℕ, Bool, true, false, cond, List, [], ◌∷◌, Option, Some, None, refl, sym}
 use Rattle.std.proofs.Common.{◌⊎◌, MatchOption, ap, ◌∙◌, nat_cmp}
 use Rattle.std.specs.BTreeMap.{insert_entry, is_at}
-use Rattle.std.specs.Cmp.{nat_cmp_is}
+use Rattle.std.specs.Cmp.{Equal-is, nat_cmp_is}
 use Rattle.std.specs.Map.{lookup}
 use Rattle.std.specs.Ordering.{is_eq, match_ordering, ordering_then}
 use Rattle.std.specs.declared.cmp.Ordering.{Ordering}
@@ -26,11 +26,6 @@ nat_itself n = sym (nat_cmp_is n n Equal refl)
 itself : (p : ℕ × ℕ) → pair_cmp p p ≡ Equal
 itself p = ap (λ o. ordering_then o (nat_cmp p.1 p.1)) (nat_itself p.0) ∙ nat_itself p.1
 
-equal_from : (r : Ordering) → is_eq r ≡ true → r ≡ Equal
-equal_from Less e = absurd (false≢true e)
-equal_from Equal e = refl
-equal_from Greater e = absurd (false≢true e)
-
 -- an answer with this pair and this value
 same_answer : (k : ℕ × ℕ) (holds : Bool) (e : Answer) → k ≡ e.0 → holds ≡ e.1 → (k, holds) ≡ e
 same_answer k holds e p q = ap (λ (x : ℕ × ℕ). (x, holds)) p ∙ ap (λ (b : Bool). (e.0, b)) q
@@ -40,7 +35,7 @@ module _ (k : ℕ × ℕ) where
       → is_at (pair_cmp k) e.0 ≡ b → cond b (Some e.1) rest ≡ Some holds → (rest ≡ Some holds → IsIn (k, holds) es)
       → IsIn (k, holds) (e ∷ es)
   found_here e es holds rest true at is next =
-      inl (same_answer k holds e (one_pair k e.0 (equal_from (pair_cmp k e.0) at)) (sym (same_Some e.1 holds is)))
+      inl (same_answer k holds e (one_pair k e.0 ((Equal-is (pair_cmp k e.0)).0 at)) (sym (same_Some e.1 holds is)))
   found_here e es holds rest false at is next = inr (next is)
 
   -- what is found stands there
