@@ -37,6 +37,7 @@ use Rattle.fa_order.specs.Placing.{
   place_now,
   stuck,
 }
+use Rattle.fa_order.specs.Visits.{IsVisit, was_placed, placed_now}
 use Rattle.fore_base.specs.Lists.{IsIn}
 use Rattle.fa_order.proofs.Visits.{one_order}
 
@@ -181,6 +182,14 @@ three_next = record {
 -- no field, no way on: a way back that gives nothing leaves the walk stuck
 stuck_without_gift : PlacingOn one_refers Back Nothing [] (0 ∷ 1 ∷ []) (0 ∷ 1 ∷ [])
 stuck_without_gift = stuck (record { from = 0; lowest = lowest_zero; no_field = λ j f o g. g })
+
+-- Visits.
+
+new_root_is_placed : IsVisit ((1 ∷ 2 ∷ []) ∷ [] ∷ []) 0 (3 ∷ []) [] (1 ∷ 2 ∷ 3 ∷ []) (0 ∷ [])
+new_root_is_placed = placed_now {rs = 1 ∷ 2 ∷ []} (λ i. i) refl
+
+placed_root_is_passed : IsVisit ((1 ∷ 2 ∷ []) ∷ [] ∷ []) 0 (3 ∷ []) (0 ∷ []) (3 ∷ []) (0 ∷ [])
+placed_root_is_passed = was_placed (inl refl)
 
 -- Outlines.
 
