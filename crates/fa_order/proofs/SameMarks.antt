@@ -1,8 +1,7 @@
 -- Trees of one signature: the same references, as far as two, the same ways back, and the same fields that box edges
 -- give.
-use Rattle.std.proofs.Common.{◌≡◌, ◌⊎◌, inl, inr, ℕ, zero, suc, true, List, []}
-use Rattle.std.proofs.Common.{◌∷◌, map, flat_map, refl, sym, ap, subst, ◌∙◌, Some, slice_get}
-use Rattle.std.proofs.lemmas.Option.{none-some, same_Some}
+use Rattle.std.proofs.Common.{◌≡◌, ◌⊎◌, inl, inr, ℕ, true, List, []}
+use Rattle.std.proofs.Common.{◌∷◌, map, flat_map, refl, sym, ap, subst, ◌∙◌}
 use Rattle.fore_base.specs.Lists.{IsIn, Paired}
 use Rattle.fore_base.proofs.ListLemmas.{in_map}
 use Rattle.ta_core.specs.declared.tree.Tree.{Tree}
@@ -15,6 +14,7 @@ use Rattle.fa_core.proofs.Permuted.{in_rearranged}
 use Rattle.fa_core.proofs.Rearranging.{back}
 use Rattle.fa_core.proofs.Sorting.{ordered}
 use Rattle.fa_core.proofs.WayParts.{way_roots}
+pub use Rattle.fa_back.proofs.Pairs.{paired_at}
 use Rattle.fa_back.proofs.RootMarks.{in_once, once_in, flat_in, in_to_root, to_root_in, back_any, any_of_back}
 use Rattle.fa_back.proofs.RootMarks.{mark_in, in_mark, way_led, led_way, reach_in_mark, mark_in_reach}
 
@@ -90,14 +90,6 @@ signed_back bs [] [] h = tt
 signed_back bs [] (u ∷ us) h = absurd h
 signed_back bs (t ∷ ts) [] h = absurd h
 signed_back bs (t ∷ ts) (u ∷ us) h = (sym h.0, signed_back bs ts us h.1)
-
--- the tree in the same place
-pub paired_at : {X Y : Type 0} (R : X → Y → Type 0) (xs : List X) (ys : List Y) (i : ℕ) (x : X) → Paired R xs ys
-    → slice_get xs i ≡ Some x → (y : Y) × (slice_get ys i ≡ Some y) × R x y
-paired_at R [] ys i x p e = absurd (none-some x e)
-paired_at R (z ∷ xs) [] i x p e = absurd p
-paired_at R (z ∷ xs) (y ∷ ys) zero x p e = (y, refl, subst (λ (v : _). R v y) (same_Some z x e) p.0)
-paired_at R (z ∷ xs) (y ∷ ys) (suc i) x p e = paired_at R xs ys i x p.1 e
 
 module _ (bs : List BoxFace) (ts us : List Tree) (same : AreSigned bs ts us) where
   pub leads_too : (i j r : ℕ) → LeadsBack bs ts i j r → LeadsBack bs us i j r

@@ -4,7 +4,8 @@ use Rattle.ta_core.specs.declared.tree.Tree.{Tree}
 use Rattle.fa_core.specs.Canonical.{LeadsBack, Walks, ended, old, new, again, IsOpen, IsFirstOpen, GoesOn, refs_at}
 use Rattle.fa_core.specs.Ways.{ways, roots_met, signature}
 use Rattle.fa_core.specs.declared.faces.BoxFace.{BoxFace}
-use Rattle.fa_order.proofs.SameMarks.{AreSigned, signed_back, paired_at, same_roots, leads_too, provides_too}
+use Rattle.fa_back.proofs.Pairs.{paired_at}
+use Rattle.fa_order.proofs.SameMarks.{AreSigned, signed_back, same_roots, leads_too, provides_too}
 
 same_refs_at : (bs : List BoxFace) (ts us : List Tree) → AreSigned bs ts us → (r : ℕ) → refs_at ts r ≡ refs_at us r
 same_refs_at bs [] [] h r = refl

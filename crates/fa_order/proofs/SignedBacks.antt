@@ -1,11 +1,12 @@
 -- Ways back by the signatures of the components are those of their trees.
-use Rattle.std.proofs.Common.{◌≡◌, ◌⊎◌, inl, inr, ℕ, zero, suc, List, [], ◌∷◌, flat_map}
+use Rattle.std.proofs.Common.{◌≡◌, ◌⊎◌, inl, inr, ℕ, List, flat_map}
 use Rattle.std.proofs.Common.{refl, sym, ap, subst, ◌∙◌, Some, slice_get}
-use Rattle.std.proofs.lemmas.Option.{none-some, same_Some}
+use Rattle.std.proofs.lemmas.Option.{same_Some}
 use Rattle.fore_base.specs.Lists.{IsIn, Paired}
 use Rattle.fore_base.proofs.ListLemmas.{in_map}
 use Rattle.ta_core.specs.declared.tree.Tree.{Tree}
 use Rattle.fa_back.specs.Reached.{IsSignedBy}
+use Rattle.fa_back.proofs.Pairs.{paired_at, paired_back}
 use Rattle.fa_back.proofs.RootMarks.{in_once, in_to_root, to_root_in, back_any, any_of_back, mark_in, in_mark}
 use Rattle.fa_back.proofs.RootMarks.{way_led, led_way, reach_in_mark, mark_in_reach, reach_refers, flat_in}
 use Rattle.fa_core.specs.Canonical.{LeadsBack, RefersTo, provides, refs_at}
@@ -19,17 +20,8 @@ use Rattle.fa_core.proofs.Rearranging.{back}
 use Rattle.fa_core.proofs.Sorting.{ordered}
 use Rattle.fa_order.specs.inner.Backs.{LeadsBy, GivesBy, SignLeads}
 use Rattle.fa_order.proofs.RefsAt.{refs_got}
-use Rattle.fa_order.proofs.SameMarks.{paired_at}
 
 module _ (bs : List BoxFace) where
-  tree_signed : (ts : List Tree) (ss : List Signature) (j : ℕ) (s : Signature) → Paired (IsSignedBy bs) ts ss
-      → slice_get ss j ≡ Some s → (t : Tree) × (slice_get ts j ≡ Some t) × IsSignedBy bs t s
-  tree_signed ts [] j s p e = absurd (none-some s e)
-  tree_signed [] (z ∷ ss) j s p e = absurd p
-  tree_signed (t ∷ ts) (z ∷ ss) zero s p e =
-      (t, refl, subst (λ (y : Signature). IsSignedBy bs t y) (same_Some z s e) p.0)
-  tree_signed (t ∷ ts) (z ∷ ss) (suc j) s p e = tree_signed ts ss j s p.1 e
-
   mark_root : (t : Tree) (k i : ℕ) (m : RefMark) → m ≡ mark bs (ways t) k → m.root ≡ i → k ≡ i
   mark_root t k i m e r = sym (ap (λ (x : RefMark). x.root) e) ∙ r
 
@@ -71,7 +63,7 @@ module _ (bs : List BoxFace) (ts : List Tree) (ss : List Signature) (signed : Pa
 
   pub by_leads : (i j r : ℕ) → LeadsBy ss i j r → LeadsBack bs ts i j r
   by_leads i j r (m, (s, e, h), q, z) =
-      let t = tree_signed bs ts ss j s signed e in
+      let t = paired_back (IsSignedBy bs) ts ss j s signed e in
       tree_leads bs ts j t.0 t.1 i r (m, subst (λ (ms : List RefMark). IsIn m ms) (sym t.2) h, q, z)
 
   pub gives_by : (i j f : ℕ) → provides bs ts i j f → GivesBy ss i j f
@@ -89,7 +81,7 @@ module _ (bs : List BoxFace) (ts : List Tree) (ss : List Signature) (signed : Pa
 
   pub by_gives : (i j f : ℕ) → GivesBy ss i j f → provides bs ts i j f
   by_gives i j f (m, (s, e, h), q, z) =
-      let t = tree_signed bs ts ss j s signed e in
+      let t = paired_back (IsSignedBy bs) ts ss j s signed e in
       let k = in_mark bs t.0 m (subst (λ (ms : List RefMark). IsIn m ms) (sym t.2) h) in
       let y : k.0 ≡ i = mark_root bs t.0 k.0 i m k.2 q in (
         t.0,
@@ -103,7 +95,7 @@ module _ (bs : List BoxFace) (ts : List Tree) (ss : List Signature) (signed : Pa
   -- a way back leads to the tree's own root, or to one to which the tree refers
   pub led_within : (i j r : ℕ) → LeadsBy ss i j r → (r ≡ j) ⊎ IsIn r (refs_at ts j)
   led_within i j r (m, (s, e, h), q, z) =
-      let t = tree_signed bs ts ss j s signed e in
+      let t = paired_back (IsSignedBy bs) ts ss j s signed e in
       let k = in_mark bs t.0 m (subst (λ (ms : List RefMark). IsIn m ms) (sym t.2) h) in
       elim z [
         | inl l ↦ inl l.0

@@ -1,7 +1,5 @@
 -- Where trees stay tame, so do the roots: their kinds, that no other cell is of one, and their order.
-use Rattle.std.proofs.Common.{◌≡◌, inl, inr, ℕ, zero, suc, ◌<◌, List, [], ◌∷◌, length, refl, sym, subst, Some}
-use Rattle.std.proofs.Common.{slice_get}
-use Rattle.std.proofs.lemmas.Option.{none-some, same_Some}
+use Rattle.std.proofs.Common.{◌≡◌, inl, inr, ℕ, ◌<◌, List, length, refl, sym, subst}
 use Rattle.fore_base.specs.Lists.{Paired}
 use Rattle.fore_base.proofs.ListLemmas.{paired_long, paired_weaker}
 use Rattle.ta_core.specs.declared.tree.Tree.{Tree}
@@ -9,20 +7,12 @@ use Rattle.fa_core.specs.Canonical.{IsLedTo, IsRootKind, IsUntied, Walks, GoesOn
 use Rattle.fa_core.specs.Ways.{signature}
 use Rattle.fa_core.specs.declared.faces.BoxFace.{BoxFace}
 use Rattle.fa_core.specs.declared.forest.Target.{Target}
+use Rattle.fa_back.proofs.Pairs.{paired_at, paired_back}
 use Rattle.fa_order.specs.inner.Following.{TreeFollows, Follows, StaysTame}
 use Rattle.fa_order.proofs.CountedMarks.{same_times}
 use Rattle.fa_order.proofs.Following.{shared_follows, knot_follows, untied_follows}
-use Rattle.fa_order.proofs.SameMarks.{AreSigned, paired_at, same_roots, met_refers, leads_too}
+use Rattle.fa_order.proofs.SameMarks.{AreSigned, same_roots, met_refers, leads_too}
 use Rattle.fa_order.proofs.SameWalks.{walks_too}
-
--- the tree in the same place, from the second list
-other_at : {X Y : Type 0} (R : X → Y → Type 0) (xs : List X) (ys : List Y) (i : ℕ) (y : Y) → Paired R xs ys
-    → slice_get ys i ≡ Some y → (x : X) × (slice_get xs i ≡ Some x) × R x y
-other_at R [] [] i y p e = absurd (none-some y e)
-other_at R [] (z ∷ ys) i y p e = absurd p
-other_at R (x ∷ xs) [] i y p e = absurd p
-other_at R (x ∷ xs) (z ∷ ys) zero y p e = (x, refl, subst (λ (v : _). R x v) (same_Some z y e) p.0)
-other_at R (x ∷ xs) (z ∷ ys) (suc i) y p e = other_at R xs ys i y p.1 e
 
 module _ (bs : List BoxFace) (vs : List Target) (ts us : List Tree) (tame : Paired (StaysTame bs) ts us) where
   pub signed : AreSigned bs ts us
@@ -40,7 +30,7 @@ module _ (bs : List BoxFace) (vs : List Target) (ts us : List Tree) (tame : Pair
     var = λ j. ((λ i. i), (λ i. i));
     times = λ j. sym (same_times bs j ts us signed);
     down = λ k t e. (let u = paired_at (StaysTame bs) ts us k t tame e in (u.0, u.1, tame_follows t u.0 u.2));
-    up = λ j u e. (let t = other_at (StaysTame bs) ts us j u tame e in (t.0, t.1, tame_follows t.0 u t.2));
+    up = λ j u e. (let t = paired_back (StaysTame bs) ts us j u tame e in (t.0, t.1, tame_follows t.0 u t.2));
   }
 
   led_too : (r : ℕ) → IsLedTo bs vs ts r → IsLedTo bs vs us r
@@ -48,7 +38,7 @@ module _ (bs : List BoxFace) (vs : List Target) (ts us : List Tree) (tame : Pair
     no_var = l.no_var;
     alone =
         λ j u e d h.
-        (let t = other_at (StaysTame bs) ts us j u tame e in
+        (let t = paired_back (StaysTame bs) ts us j u tame e in
         l.alone j t.0 t.1 d (met_refers u t.0 (sym (same_roots bs t.0 u t.2.0)) r h));
     from = l.from;
     other = l.other;

@@ -1,5 +1,5 @@
 -- Where a slot does not tell a leaf from a cell of one signature, both make the same marks above it.
-use Rattle.std.proofs.Common.{◌≡◌, ◌⊎◌, inl, inr, ℕ, Bool, true, false, true≢false, ◌||◌, ◌&&◌, nat_eq}
+use Rattle.std.proofs.Common.{◌≡◌, ◌⊎◌, inl, inr, ℕ, Bool, true, false, true≢false, ◌||◌, ◌&&◌}
 use Rattle.std.proofs.Common.{if◌then◌else◌, List, [], ◌∷◌, ◌++◌, map, filter, flat_map, Option, Some, None, slice_get}
 use Rattle.std.proofs.Common.{refl, sym, ap, ap₂, ◌∙◌}
 use Rattle.fore_base.specs.Lists.{Every}
@@ -15,7 +15,7 @@ use Rattle.fa_core.specs.Ways.{has, once, is_back, leads_through, fields_out}
 use Rattle.fa_core.specs.Cells.{edges, mark_of, many_with, many_from, provided_in, provided_at, back_in, back_at}
 use Rattle.fa_core.specs.Cells.{reach_in, reach_at, cell_mark, cell_roots, cell_marks, roots_in, leaf_mark, marks_by}
 use Rattle.fa_core.proofs.CellMarks.{same_made, map_same}
-use Rattle.fa_sound.proofs.Between.{AreLeafs}
+use Rattle.fa_sound.proofs.Between.{AreLeafs, leaf_found}
 use Rattle.fa_signatures.specs.inner.Telling.{has_some, tells_by, tells, told_ends, told_below}
 
 -- at the end of the slot, e makes the marks of x
@@ -41,18 +41,6 @@ pub data SeenEach (told : List ℕ) : List ℕ → List Below → List Below →
 -- no mark, or that of a leaf
 abbrev IsLeafMark : Option RefMark → Type 0
 IsLeafMark o = (o ≡ None) ⊎ ((n : ℕ) × (o ≡ Some (leaf_mark n)))
-
-leaf_found : (r : ℕ) (ms : List RefMark) → AreLeafs ms → IsLeafMark (mark_of r ms)
-leaf_found r ms (inl e) = inl (ap (mark_of r) e)
-leaf_found r ms (inr (n, e)) = elim (one (nat_eq r n)) [
-  | inl k ↦ inl (ap (mark_of r) e ∙ k)
-  | inr k ↦ inr (n, ap (mark_of r) e ∙ k)
-]
-  where
-    one : (b : Bool) → ((if b then Some (leaf_mark n) else None) ≡ None)
-        ⊎ ((if b then Some (leaf_mark n) else None) ≡ Some (leaf_mark n))
-    one true = inr refl
-    one false = inl refl
 
 -- a box that does not tell gives nothing, and does not lead back
 tells_nothing : (o : Option BoxFace) → tells_by o ≡ false → (leads_through o ≡ false) × (fields_out o ≡ [])

@@ -134,21 +134,21 @@ map_between f g h (n ∷ ns) k e = ap₂ (λ (m : RefMark) (ms : List RefMark). 
 
 -- MARKS
 
-module _ (bs : List BoxFace) where
-  -- the marks of a leaf: none, or a plain one
-  leaf_found : (r : ℕ) (ms : List RefMark) → AreLeafs ms → (mark_of r ms ≡ None)
-      ⊎ ((n : ℕ) × (mark_of r ms ≡ Some (leaf_mark n)))
-  leaf_found r ms (inl e) = inl (ap (mark_of r) e)
-  leaf_found r ms (inr (n, e)) = elim (one (nat_eq r n)) [
-    | inl k ↦ inl (ap (mark_of r) e ∙ k)
-    | inr k ↦ inr (n, ap (mark_of r) e ∙ k)
-  ]
-    where
-      one : (b : Bool) → ((if b then Some (leaf_mark n) else None) ≡ None)
-          ⊎ ((if b then Some (leaf_mark n) else None) ≡ Some (leaf_mark n))
-      one true = inr refl
-      one false = inl refl
+-- the marks of a leaf: none, or a plain one
+pub leaf_found : (r : ℕ) (ms : List RefMark) → AreLeafs ms → (mark_of r ms ≡ None)
+    ⊎ ((n : ℕ) × (mark_of r ms ≡ Some (leaf_mark n)))
+leaf_found r ms (inl e) = inl (ap (mark_of r) e)
+leaf_found r ms (inr (n, e)) = elim (one (nat_eq r n)) [
+  | inl k ↦ inl (ap (mark_of r) e ∙ k)
+  | inr k ↦ inr (n, ap (mark_of r) e ∙ k)
+]
+  where
+    one : (b : Bool) → ((if b then Some (leaf_mark n) else None) ≡ None)
+        ⊎ ((if b then Some (leaf_mark n) else None) ≡ Some (leaf_mark n))
+    one true = inr refl
+    one false = inl refl
 
+module _ (bs : List BoxFace) where
   plain_provided : (n : ℕ) (s : Slot) → provided_in bs (Some (leaf_mark n)) s false ≡ []
   plain_provided n (Field f) = refl
   plain_provided n (Link b) = refl

@@ -1,18 +1,16 @@
 -- Edges that load and store data.
-use Rattle.std.proofs.Common.{◌≡◌, ◌∙◌, ℕ, List, map, slice_set, Option, refl, sym, ap, ap₂, subst}
+use Rattle.std.proofs.Common.{◌≡◌, ◌∙◌, ℕ, List, slice_set, Option, refl, sym, ap, ap₂, subst}
 use Rattle.std.proofs.lemmas.Option.{same_Some}
 use Rattle.fore_base.specs.Stores.{followed, var_of, datum_of, set_datum, with_datum}
 use Rattle.fore_base.specs.declared.store.CellRec.{CellRec}
 use Rattle.fore_base.specs.declared.store.Datum.{Datum}
 use Rattle.fore_base.specs.declared.store.Datum.TheVariants.{Known}
 use Rattle.fore_base.specs.declared.store.Store.{Store}
-use Rattle.fore_base.specs.declared.store.Value.{Value}
 use Rattle.fa_core.specs.declared.boxes.BoxDef.{BoxDef}
 use Rattle.fa_core.specs.declared.faces.Face.{Face}
 use Rattle.fa_core.specs.declared.forest.Forest.{Forest}
-use Rattle.fa_core.specs.declared.forest.Target.{Target}
 use Rattle.fa_core.specs.declared.forest.Target.TheVariants.{At}
-use Rattle.fa_core.specs.Dressed.{Node, Nodes, number, roots_of, value_in, cells}
+use Rattle.fa_core.specs.Dressed.{Node, Nodes, number, cells}
 use Rattle.fa_core.specs.Member.{OfForest, StandsBy, Stands}
 use Rattle.fa_edit.specs.Data.{AllHaveDatum, AllLackDatum, IsDatumPut, datum_put}
 use Rattle.c_cfg.specs.declared.graph.Const.TheVariants.{Known as ConstKnown}
@@ -29,7 +27,7 @@ use Rattle.sym_transfer.proofs.DatumPut.{datum_roots, datum_node, datum_number, 
 use Rattle.sym_transfer.proofs.DatumPut.{datum_edges}
 use Rattle.sym_transfer.proofs.DatumSet.{with_datum_same, with_datum_twice}
 use Rattle.sym_transfer.proofs.Following.{follow_root}
-use Rattle.sym_transfer.proofs.Standing.{IsHeap, store_by, heap_of, is_by, stands_by, alike_equal}
+use Rattle.sym_transfer.proofs.Standing.{IsHeap, store_by, same_by, heap_of, is_by, stands_by, alike_equal}
 
 module _ (face : Face) (T : List BoxDef) (H : Forest) where
   -- the data field of root r is y in each dressed forest
@@ -84,15 +82,8 @@ module _ (face : Face) (T : List BoxDef) (H : Forest) where
           ∙ (ap (λ (w : Datum). stored_datum s (number q.0) f w) (is d cs next)
           ∙ (ap (λ (m : Option Datum). if_there m (λ old. Passed (record s { cells = with_datum cs (number q.0) f z })))
           (datum_is face.shapes.structs d cs next h r f y q)
-          ∙ ap Passed (same_store d cs next (with_datum cs (number q.0) f z)))))
-        where
-          same_store : (d : Nodes) (cs : List CellRec) (next : ℕ) (es : List CellRec)
-              → record { vars = map (value_in (roots_of d)) H.vars; data_vars = H.data_vars; cells = es; next = next }
-              ≡ store_by (datum_put r f z d) R es next
-          same_store d cs next es =
-              ap₂ (λ (v : List Value) (w : List Datum). record { vars = v; data_vars = w; cells = es; next = next })
-              (ap (λ (ts : List Target). map (value_in (roots_of d)) ts) (sym p.vars)
-              ∙ ap (λ (vs : List Value). map (value_in vs) R.vars) (sym (datum_roots r f z d))) (sym p.data_vars)
+          ∙ ap Passed (same_by d (datum_put r f z d) H R (with_datum cs (number q.0) f z) next
+          (datum_roots r f z d) p.vars p.data_vars))))
 
       pub carries_datum : Carries face T H R i x
       carries_datum = record {

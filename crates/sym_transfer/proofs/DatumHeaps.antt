@@ -1,25 +1,27 @@
 -- A datum in a data field of a root is what the store has there, and another datum is another one there.
-use Rattle.std.proofs.Common.{◌≡◌, ◌∙◌, ℕ, ◌<◌, List, ◌∷◌, slice_set, Some, None, sym, ap, subst}
-use Rattle.fore_base.specs.Heap.{NamesCell}
-use Rattle.fore_base.specs.Lists.{Every}
+use Rattle.std.proofs.Common.{◌≡◌, ◌∙◌, ℕ, List, ◌∷◌, slice_set, Some, None, refl, sym, ap}
 use Rattle.fore_base.specs.Stores.{with_datum}
 use Rattle.fore_base.specs.declared.shape.Shape.{Shape}
 use Rattle.fore_base.specs.declared.store.CellRec.{CellRec}
 use Rattle.fore_base.specs.declared.store.Datum.{Datum}
-use Rattle.fore_base.specs.declared.store.Value.{Value}
-use Rattle.fore_base.specs.declared.store.Value.TheVariants.{Null, Uninit, Dangling, Cell}
-use Rattle.fore_base.proofs.ListLemmas.{every_weaker}
 use Rattle.fa_core.specs.Dressed.{Parts, Nodes, node, Head, facts, number, roots_of}
-use Rattle.fa_core.specs.Member.{HasItsFields, store_facts}
+use Rattle.fa_core.specs.Member.{store_facts}
 use Rattle.fa_core.specs.Rearranged.{Rearranged, keep, chain}
 use Rattle.fa_core.proofs.Permuted.{in_rearranged, cancel}
 use Rattle.fa_core.proofs.Rearranging.{back, equal}
 use Rattle.fa_back.specs.Reached.{node_at}
 use Rattle.fa_edit.specs.Data.{HasDatum, LacksDatum, datum_put}
 use Rattle.c_cfg.specs.Edges.{datum_field_of}
+use Rattle.sym_transfer.proofs.CellSet.{heap_after}
 use Rattle.sym_transfer.proofs.DatumPut.{datum_put_same, facts_head}
-use Rattle.sym_transfer.proofs.DatumSet.{head_in, head_is_in, data_field_is, head_split, with_datum_same}
-use Rattle.sym_transfer.proofs.DatumSet.{has_datum_after, differ_datum, every_datum}
+use Rattle.sym_transfer.proofs.DatumSet.{
+  head_in,
+  head_is_in,
+  data_field_is,
+  head_split,
+  with_datum_same,
+  datum_cell,
+}
 use Rattle.sym_transfer.proofs.Standing.{IsHeap, root_head}
 
 module _ (hs : List Shape) (d : Nodes) (cs : List CellRec) (next : ℕ) (h : IsHeap hs d cs next) where
@@ -50,20 +52,6 @@ module _ (hs : List Shape) (d : Nodes) (cs : List CellRec) (next : ℕ) (h : IsH
       (chain h.same_facts
       (chain (equal (ap store_facts (sym (with_datum_same cs c f y (data_field_is c s f ds cs a ∙ l)))))
       (q.1 f y)))) in
-      let names = λ (z : CellRec) (g : Every (NamesCell cs) z.fields).
-      every_weaker (NamesCell cs) (NamesCell (with_datum cs c f x)) z.fields (λ w. names_after c f x w) g in
-      record {
-        differ = differ_datum cs c f x h.differ;
-        below = every_datum (λ z. z.number < next) (λ z. z.number < next) cs c f x (λ z l. l) (λ z l. l) h.below;
-        fields = every_datum (λ z. Every (NamesCell cs) z.fields)
-            (λ z. Every (NamesCell (with_datum cs c f x)) z.fields) cs c f x names names h.fields;
-        filled = every_datum (HasItsFields hs) (HasItsFields hs) cs c f x (λ z l. l) (λ z l. l) h.filled;
-        same_facts = chain (k.1 f x)
-            (chain (keep (Head c s (slice_set ds f x)) (cancel o k.0 q.0 old)) (back (q.1 f x)));
-      }
-    where
-      names_after : (m f : ℕ) (x : Datum) (w : Value) → NamesCell cs w → NamesCell (with_datum cs m f x) w
-      names_after m f x Null g = tt
-      names_after m f x Uninit g = tt
-      names_after m f x Dangling g = tt
-      names_after m f x (Cell j) g = subst (λ (y : Type 0). y) (sym (has_datum_after cs m f x j)) g
+      heap_after (λ z. record z { datums = slice_set z.datums f x }) (λ z. refl) hs d (datum_put r f x d) cs next c
+      (with_datum cs c f x) (datum_cell cs c f x) h (λ z g. g) (λ z g. g)
+      (chain (k.1 f x) (chain (keep (Head c s (slice_set ds f x)) (cancel o k.0 q.0 old)) (back (q.1 f x))))

@@ -4,7 +4,7 @@ use Rattle.std.proofs.Common.{slice_get, slice_set, Option, Some, None, refl, sy
 use Rattle.std.proofs.lemmas.Bool.{eq-eqb, ne_eqb}
 use Rattle.std.proofs.lemmas.Option.{none-some, same_Some}
 use Rattle.fore_base.specs.Heap.{HasCell, AllDiffer}
-use Rattle.fore_base.specs.Lists.{IsIn, Every}
+use Rattle.fore_base.specs.Lists.{IsIn}
 use Rattle.fore_base.specs.Stores.{with_datum}
 use Rattle.fore_base.specs.declared.store.CellRec.{CellRec}
 use Rattle.fore_base.specs.declared.store.Datum.{Datum}
@@ -15,6 +15,7 @@ use Rattle.fa_core.specs.Rearranged.{Rearranged, chain}
 use Rattle.fa_core.proofs.Rearranging.{equal, after, middle}
 use Rattle.fa_back.proofs.FactParts.{fact_cell}
 use Rattle.c_cfg.specs.Edges.{datum_field_of}
+use Rattle.sym_transfer.proofs.CellSet.{with_cell}
 use Rattle.sym_transfer.proofs.Facts.{fact_shape, fact_datums, fact_has, no_head}
 use Rattle.sym_transfer.proofs.Places.{set_twice, set_same}
 
@@ -99,37 +100,10 @@ with_datum_twice (c ∷ cs) n f x y = here (nat_eq c.number n) refl (with_datum_
     here true p rest = rw p (ap (λ (w : List Datum). record c { datums = w } ∷ cs) (set_twice c.datums f x y))
     here false p rest = rw p (ap (λ (w : List CellRec). c ∷ w) rest)
 
-pub has_datum_after : (cs : List CellRec) (n f : ℕ) (x : Datum) (m : ℕ) → HasCell (with_datum cs n f x) m ≡ HasCell cs m
-has_datum_after [] n f x m = refl
-has_datum_after (c ∷ cs) n f x m = here (nat_eq c.number n) (has_datum_after cs n f x m)
-  where
-    here : (b : Bool) → HasCell (with_datum cs n f x) m ≡ HasCell cs m
-        → HasCell (if b then record c { datums = slice_set c.datums f x } ∷ cs else c ∷ with_datum cs n f x) m
-        ≡ HasCell (c ∷ cs) m
-    here true rest = refl
-    here false rest = ap (λ (y : Type 0). (c.number ≡ m) ⊎ y) rest
-
-pub differ_datum : (cs : List CellRec) (n f : ℕ) (x : Datum) → AllDiffer cs → AllDiffer (with_datum cs n f x)
-differ_datum [] n f x h = h
-differ_datum (c ∷ cs) n f x (g, h) = here (nat_eq c.number n) (differ_datum cs n f x h)
-  where
-    here : (b : Bool) → AllDiffer (with_datum cs n f x)
-        → AllDiffer (if b then record c { datums = slice_set c.datums f x } ∷ cs else c ∷ with_datum cs n f x)
-    here true rest = (g, h)
-    here false rest = (λ i. g (subst (λ (y : Type 0). y) (has_datum_after cs n f x c.number) i), rest)
-
--- what holds of each cell holds of each after, where it holds of a cell whose datum is set
-pub every_datum : (P Q : CellRec → Type 0) (cs : List CellRec) (n f : ℕ) (x : Datum) → ((c : CellRec) → P c → Q c)
-    → ((c : CellRec) → P c → Q (record c { datums = slice_set c.datums f x })) → Every P cs
-    → Every Q (with_datum cs n f x)
-every_datum P Q [] n f x k l h = tt
-every_datum P Q (c ∷ cs) n f x k l (g, h) = here (nat_eq c.number n) (every_datum P Q cs n f x k l h)
-  where
-    rest_of : (es : List CellRec) → Every P es → Every Q es
-    rest_of [] i = tt
-    rest_of (e ∷ es) (j, i) = (k e j, rest_of es i)
-
-    here : (b : Bool) → Every Q (with_datum cs n f x)
-        → Every Q (if b then record c { datums = slice_set c.datums f x } ∷ cs else c ∷ with_datum cs n f x)
-    here true rest = (l c g, rest_of cs h)
-    here false rest = (k c g, rest)
+-- the cell of the number is changed, and no other
+pub datum_cell : (cs : List CellRec) (n f : ℕ) (x : Datum) → with_datum cs n f x
+    ≡ with_cell (λ c. record c { datums = slice_set c.datums f x }) cs n
+datum_cell [] n f x = refl
+datum_cell (c ∷ cs) n f x =
+    ap (λ (es : List CellRec). if nat_eq c.number n then record c { datums = slice_set c.datums f x } ∷ cs else c ∷ es)
+    (datum_cell cs n f x)

@@ -1,10 +1,8 @@
 -- A pointer field of a store that is set: its pointer is a fact in front of others, which stay.
-use Rattle.std.proofs.Common.{◌≡◌, ◌⊎◌, ℕ, zero, suc, ◌+◌, Bool, true, false, nat_eq, if◌then◌else◌, List, [], ◌∷◌}
-use Rattle.std.proofs.Common.{◌++◌, slice_get, slice_set, Some, refl, ap, ap₂, subst, arith, zero-add}
+use Rattle.std.proofs.Common.{◌≡◌, ℕ, zero, suc, ◌+◌, Bool, true, false, nat_eq, if◌then◌else◌, List, [], ◌∷◌}
+use Rattle.std.proofs.Common.{◌++◌, slice_get, slice_set, Some, refl, ap, ap₂, arith, zero-add}
 use Rattle.std.proofs.lemmas.Bool.{eqb-true}
 use Rattle.std.proofs.lemmas.Option.{none-some}
-use Rattle.fore_base.specs.Heap.{HasCell, AllDiffer}
-use Rattle.fore_base.specs.Lists.{Every}
 use Rattle.fore_base.specs.Stores.{with_field}
 use Rattle.fore_base.specs.declared.store.CellRec.{CellRec}
 use Rattle.fore_base.specs.declared.store.Value.{Value}
@@ -13,6 +11,7 @@ use Rattle.fa_core.specs.Member.{points, cell_facts, store_facts}
 use Rattle.fa_core.specs.Rearranged.{Rearranged, keep, swap, chain}
 use Rattle.fa_core.proofs.Rearranging.{equal, after, before, middle}
 use Rattle.c_cfg.specs.Edges.{field_of}
+use Rattle.sym_transfer.proofs.CellSet.{with_cell}
 use Rattle.sym_transfer.proofs.Places.{set_twice, set_same}
 
 -- one field taken to the front, whatever its value
@@ -82,38 +81,10 @@ with_field_twice (c ∷ cs) n f v w = here (nat_eq c.number n) refl (with_field_
     here true p rest = rw p (ap (λ (x : List Value). record c { fields = x } ∷ cs) (set_twice c.fields f v w))
     here false p rest = rw p (ap (λ (x : List CellRec). c ∷ x) rest)
 
--- the same cells are there
-pub has_after : (cs : List CellRec) (n f : ℕ) (w : Value) (m : ℕ) → HasCell (with_field cs n f w) m ≡ HasCell cs m
-has_after [] n f w m = refl
-has_after (c ∷ cs) n f w m = here (nat_eq c.number n) (has_after cs n f w m)
-  where
-    here : (b : Bool) → HasCell (with_field cs n f w) m ≡ HasCell cs m
-        → HasCell (if b then record c { fields = slice_set c.fields f w } ∷ cs else c ∷ with_field cs n f w) m
-        ≡ HasCell (c ∷ cs) m
-    here true rest = refl
-    here false rest = ap (λ (x : Type 0). (c.number ≡ m) ⊎ x) rest
-
-pub differ_after : (cs : List CellRec) (n f : ℕ) (w : Value) → AllDiffer cs → AllDiffer (with_field cs n f w)
-differ_after [] n f w h = h
-differ_after (c ∷ cs) n f w (g, h) = here (nat_eq c.number n) (differ_after cs n f w h)
-  where
-    here : (b : Bool) → AllDiffer (with_field cs n f w)
-        → AllDiffer (if b then record c { fields = slice_set c.fields f w } ∷ cs else c ∷ with_field cs n f w)
-    here true rest = (g, h)
-    here false rest = (λ i. g (subst (λ (x : Type 0). x) (has_after cs n f w c.number) i), rest)
-
--- what holds of each cell holds of each after, where it holds of a cell whose field is set
-pub every_after : (P Q : CellRec → Type 0) (cs : List CellRec) (n f : ℕ) (w : Value) → ((c : CellRec) → P c → Q c)
-    → ((c : CellRec) → P c → Q (record c { fields = slice_set c.fields f w })) → Every P cs
-    → Every Q (with_field cs n f w)
-every_after P Q [] n f w k l h = tt
-every_after P Q (c ∷ cs) n f w k l (g, h) = here (nat_eq c.number n) (every_after P Q cs n f w k l h)
-  where
-    rest_of : (es : List CellRec) → Every P es → Every Q es
-    rest_of [] i = tt
-    rest_of (e ∷ es) (j, i) = (k e j, rest_of es i)
-
-    here : (b : Bool) → Every Q (with_field cs n f w)
-        → Every Q (if b then record c { fields = slice_set c.fields f w } ∷ cs else c ∷ with_field cs n f w)
-    here true rest = (l c g, rest_of cs h)
-    here false rest = (k c g, rest)
+-- the cell of the number is changed, and no other
+pub field_cell : (cs : List CellRec) (n f : ℕ) (w : Value) → with_field cs n f w
+    ≡ with_cell (λ c. record c { fields = slice_set c.fields f w }) cs n
+field_cell [] n f w = refl
+field_cell (c ∷ cs) n f w =
+    ap (λ (es : List CellRec). if nat_eq c.number n then record c { fields = slice_set c.fields f w } ∷ cs else c ∷ es)
+    (field_cell cs n f w)

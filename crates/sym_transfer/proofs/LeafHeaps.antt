@@ -1,23 +1,21 @@
 -- A leaf in a field of a root is what the store has there, and another leaf is another value there.
-use Rattle.std.proofs.Common.{◌≡◌, inl, ◌∙◌, ℕ, ◌<◌, List, ◌∷◌, Some, refl, sym, ap, subst}
+use Rattle.std.proofs.Common.{◌≡◌, inl, ◌∙◌, ℕ, List, ◌∷◌, slice_set, Some, refl, sym, ap, subst}
 use Rattle.fore_base.specs.Heap.{NamesCell}
-use Rattle.fore_base.specs.Lists.{Every, IsIn}
+use Rattle.fore_base.specs.Lists.{IsIn}
 use Rattle.fore_base.specs.Stores.{with_field}
 use Rattle.fore_base.specs.declared.shape.Shape.{Shape}
 use Rattle.fore_base.specs.declared.store.CellRec.{CellRec}
-use Rattle.fore_base.specs.declared.store.Value.{Value}
-use Rattle.fore_base.specs.declared.store.Value.TheVariants.{Null, Uninit, Dangling, Cell}
-use Rattle.fore_base.proofs.ListLemmas.{every_weaker}
 use Rattle.fa_core.specs.declared.forest.Target.{Target}
 use Rattle.fa_core.specs.Dressed.{Nodes, Points, facts, number, roots_of, value_in}
-use Rattle.fa_core.specs.Member.{HasItsFields, store_facts}
+use Rattle.fa_core.specs.Member.{store_facts}
 use Rattle.fa_core.specs.Rearranged.{Rearranged, keep, chain}
 use Rattle.fa_core.proofs.Permuted.{in_rearranged, cancel}
 use Rattle.fa_core.proofs.Rearranging.{back, equal}
 use Rattle.fa_edit.specs.Leaves.{HasLeaf, leaf_put}
 use Rattle.c_cfg.specs.Edges.{field_of}
+use Rattle.sym_transfer.proofs.CellSet.{heap_after}
 use Rattle.sym_transfer.proofs.Facts.{field_there}
-use Rattle.sym_transfer.proofs.FieldSet.{store_split, with_field_same, has_after, differ_after, every_after}
+use Rattle.sym_transfer.proofs.FieldSet.{store_split, with_field_same, field_cell}
 use Rattle.sym_transfer.proofs.LeafPut.{facts_split, leaf_put_same}
 use Rattle.sym_transfer.proofs.Places.{every_set, length_set}
 use Rattle.sym_transfer.proofs.Standing.{IsHeap, value_names}
@@ -48,22 +46,7 @@ module _ (hs : List Shape) (d : Nodes) (cs : List CellRec) (next : ℕ) (h : IsH
       (chain h.same_facts
       (chain (equal (ap store_facts (sym (with_field_same cs m f v (field_is r f t (n, e, l)))))) (q.1 v)))) in
       let rest : Rearranged k.0 q.0 = cancel (Points m f v) k.0 q.0 old in
-      let names = λ (c : CellRec) (g : Every (NamesCell cs) c.fields).
-      every_weaker (NamesCell cs) (NamesCell (with_field cs m f w)) c.fields (λ x. names_after m f w x) g in
-      record {
-        differ = differ_after cs m f w h.differ;
-        below = every_after (λ c. c.number < next) (λ c. c.number < next) cs m f w (λ c l. l) (λ c l. l) h.below;
-        fields = every_after (λ c. Every (NamesCell cs) c.fields)
-            (λ c. Every (NamesCell (with_field cs m f w)) c.fields) cs m f w names
-            (λ c g. every_set (NamesCell (with_field cs m f w)) c.fields f w (names c g)
-            (names_after m f w w (value_names hs d cs next h u))) h.fields;
-        filled = every_after (HasItsFields hs) (HasItsFields hs) cs m f w (λ c p. p)
-            (λ c p. length_set c.fields f w ∙ p) h.filled;
-        same_facts = chain (k.1 u) (chain (keep (Points m f w) rest) (back (q.1 w)));
-      }
-    where
-      names_after : (m f : ℕ) (w x : Value) → NamesCell cs x → NamesCell (with_field cs m f w) x
-      names_after m f w Null g = tt
-      names_after m f w Uninit g = tt
-      names_after m f w Dangling g = tt
-      names_after m f w (Cell j) g = subst (λ (y : Type 0). y) (sym (has_after cs m f w j)) g
+      heap_after (λ c. record c { fields = slice_set c.fields f w }) (λ c. refl) hs d (leaf_put r f u d) cs next m
+      (with_field cs m f w) (field_cell cs m f w) h
+      (λ c g. every_set (NamesCell cs) c.fields f w g (value_names hs d cs next h u))
+      (λ c p. length_set c.fields f w ∙ p) (chain (k.1 u) (chain (keep (Points m f w) rest) (back (q.1 w))))

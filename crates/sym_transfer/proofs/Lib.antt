@@ -2,6 +2,7 @@ pub mod Apart
 pub mod Below
 pub mod BoxEdges
 pub mod Carrying
+pub mod CellSet
 pub mod CreatedStores
 pub mod DataKinds
 pub mod DatumHeaps

@@ -1,11 +1,10 @@
 -- Edges that load and store pointers.
-use Rattle.std.proofs.Common.{◌≡◌, ◌∙◌, ℕ, Bool, true, if◌then◌else◌, List, map, slice_set, Option, Some, Err, refl}
+use Rattle.std.proofs.Common.{◌≡◌, ◌∙◌, ℕ, Bool, true, if◌then◌else◌, List, slice_set, Option, Some, Err, refl}
 use Rattle.std.proofs.Common.{sym, ap, ap₂, subst}
 use Rattle.std.proofs.lemmas.Option.{same_Some}
 use Rattle.fore_base.specs.Stores.{followed, var_of, set_var, with_field}
 use Rattle.fore_base.specs.declared.fault.Fault.{Fault}
 use Rattle.fore_base.specs.declared.store.CellRec.{CellRec}
-use Rattle.fore_base.specs.declared.store.Datum.{Datum}
 use Rattle.fore_base.specs.declared.store.Store.{Store}
 use Rattle.fore_base.specs.declared.store.Value.{Value}
 use Rattle.fore_base.specs.declared.store.Value.TheVariants.{Null as NullValue}
@@ -32,7 +31,7 @@ use Rattle.sym_transfer.proofs.Following.{follow_fails, follow_root}
 use Rattle.sym_transfer.proofs.LeafEdges.{edges_kept}
 use Rattle.sym_transfer.proofs.LeafHeaps.{field_is, heap_put}
 use Rattle.sym_transfer.proofs.LeafPut.{leaf_put_same, leaf_put_twice, roots_kept, node_put, number_kept}
-use Rattle.sym_transfer.proofs.Standing.{IsHeap, store_by, heap_of, is_by, stands_by, alike_equal}
+use Rattle.sym_transfer.proofs.Standing.{IsHeap, store_by, same_by, heap_of, is_by, stands_by, alike_equal}
 
 module _ (face : Face) (T : List BoxDef) (H : Forest) where
   pub store_fails : (b f v x : ℕ) (k : Fault) → root_of (target_at H b) ≡ Err k
@@ -85,15 +84,8 @@ module _ (face : Face) (T : List BoxDef) (H : Forest) where
         (field_is hs d cs next h r f t q)
         ∙ (ap (λ (y : Bool). if y then Passed (record s { cells = with_field cs (number q.0) f v }) else NotPassed)
         (fits d cs next o h q.0 q.1)
-        ∙ ap Passed (same_store d cs next (with_field cs (number q.0) f v))))))
-      where
-        same_store : (d : Nodes) (cs : List CellRec) (next : ℕ) (es : List CellRec)
-            → record { vars = map (value_in (roots_of d)) H.vars; data_vars = H.data_vars; cells = es; next = next }
-            ≡ store_by (leaf_put r f u d) R es next
-        same_store d cs next es =
-            ap₂ (λ (v : List Value) (w : List Datum). record { vars = v; data_vars = w; cells = es; next = next })
-            (ap (λ (ts : List Target). map (value_in (roots_of d)) ts) (sym p.vars)
-            ∙ ap (λ (vs : List Value). map (value_in vs) R.vars) (sym (roots_kept r f u d))) (sym p.data_vars)
+        ∙ ap Passed (same_by d (leaf_put r f u d) H R (with_field cs (number q.0) f v) next (roots_kept r f u d) p.vars
+        p.data_vars)))))
 
     pub carries_put : Carries face T H R i x
     carries_put = record {

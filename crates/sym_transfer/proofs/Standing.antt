@@ -37,6 +37,13 @@ abbrev pub store_by : Nodes → Forest → List CellRec → ℕ → Store
 store_by d F cs next = record
     { vars = map (value_in (roots_of d)) F.vars; data_vars = F.data_vars; cells = cs; next = next }
 
+-- the same store by trees with the same roots and a forest with the same variables
+pub same_by : (d e : Nodes) (F G : Forest) (cs : List CellRec) (next : ℕ) → roots_of e ≡ roots_of d → G.vars ≡ F.vars
+    → G.data_vars ≡ F.data_vars → store_by d F cs next ≡ store_by e G cs next
+same_by d e F G cs next roots vars data_vars =
+    ap₂ (λ (v : List Value) (w : List Datum). record { vars = v; data_vars = w; cells = cs; next = next })
+    (ap₂ (λ (rs : List Value) (ts : List Target). map (value_in rs) ts) (sym roots) (sym vars)) (sym data_vars)
+
 -- Roots.
 
 -- the head of the r-th root is among the facts
