@@ -1,5 +1,5 @@
 -- A sound box breaks none of the rules, and its face is what its trees show outside.
-use Rattle.std.proofs.Common.{◌≡◌, inl, inr, ℕ, zero, suc, ◌<◌, ◌≤◌, ◌+◌, Bool, true, false, true≢false, List}
+use Rattle.std.proofs.Common.{◌≡◌, ◌↔◌, inl, inr, ℕ, zero, suc, ◌<◌, ◌≤◌, ◌+◌, Bool, true, false, true≢false, List}
 use Rattle.std.proofs.Common.{[]}
 use Rattle.std.proofs.Common.{◌∷◌, ◌++◌, Option, Some, None, slice_get, refl, sym, ap, subst}
 use Rattle.std.proofs.Common.{◌∙◌, arith}
@@ -63,12 +63,13 @@ top_is (u ∷ ts) (x ∷ tops) zero s t h e k =
     subst (λ (z : Tree). IsTopped s z) (same_Some u t e) (subst (λ (z : ℕ). IsTopped z u) (same_Some x s k) h.0)
 top_is (u ∷ ts) (x ∷ tops) (suc r) s t h e k = top_is ts tops r s t h.1 e k
 
-pub has_top : (ts : List Tree) (tops : List ℕ) (r : ℕ) (t : Tree) → TopsAre ts tops → slice_get ts r ≡ Some t
-    → (s : ℕ) × IsTopped s t
-has_top [] tops r t h e = absurd (none-some t e)
-has_top (u ∷ ts) [] r t h e = absurd h
-has_top (u ∷ ts) (x ∷ tops) zero t h e = (x, subst (λ (z : Tree). IsTopped x z) (same_Some u t e) h.0)
-has_top (u ∷ ts) (x ∷ tops) (suc r) t h e = has_top ts tops r t h.1 e
+-- the top at the place of a tree
+top_place : (ts : List Tree) (tops : List ℕ) (r : ℕ) (t : Tree) → TopsAre ts tops → slice_get ts r ≡ Some t
+    → (s : ℕ) × (slice_get tops r ≡ Some s) × IsTopped s t
+top_place [] tops r t h e = absurd (none-some t e)
+top_place (u ∷ ts) [] r t h e = absurd h
+top_place (u ∷ ts) (x ∷ tops) zero t h e = (x, refl, subst (λ (z : Tree). IsTopped x z) (same_Some u t e) h.0)
+top_place (u ∷ ts) (x ∷ tops) (suc r) t h e = top_place ts tops r t h.1 e
 
 pub place_tree : (ts : List Tree) (tops : List ℕ) (r s : ℕ) → TopsAre ts tops → slice_get tops r ≡ Some s
     → (t : Tree) × (slice_get ts r ≡ Some t)
@@ -78,48 +79,62 @@ place_tree (t ∷ ts) [] r s h e = absurd h
 place_tree (t ∷ ts) (x ∷ tops) zero s h e = (t, refl)
 place_tree (t ∷ ts) (x ∷ tops) (suc r) s h e = place_tree ts tops r s h.1 e
 
--- Ends.
+-- Ends: by the tops of these trees, and by the tops of the trees themselves.
 
 module _ (face : Face) (ts : List Tree) (tops : List ℕ) (are : TopsAre ts tops) where
-  may_name : (y : Symbol) (s : ℕ) → NamesStruct tops y s → MayName ts y s
-  may_name Null s h = h
-  may_name Uninit s h = h
-  may_name Dangling s h = h
-  may_name (Ref r) s h =
-      let p = place_tree ts tops r s are h in
-      (p.0, p.1, (λ u k. top_same p.0 u s k (top_is ts tops r s p.0 are p.1 h)))
-  may_name (Cell u ds ss) s h = h
+  names_alike : (y : Symbol) (s : ℕ) → NamesStruct tops y s ↔ MayName ts y s
+  names_alike Null s = (λ h. h, λ h. h)
+  names_alike Uninit s = (λ h. h, λ h. h)
+  names_alike Dangling s = (λ h. h, λ h. h)
+  names_alike (Ref r) s = (into, from)
+    where
+      into : NamesStruct tops (Ref r) s → MayName ts (Ref r) s
+      into h =
+          let p = place_tree ts tops r s are h in
+          (p.0, p.1, (λ u k. top_same p.0 u s k (top_is ts tops r s p.0 are p.1 h)))
 
-  field_may : (y : Symbol) (s : ℕ) → FieldEnds tops s y → FieldMayEnd ts s y
-  field_may Null s h = tt
-  field_may Uninit s h = tt
-  field_may Dangling s h = tt
-  field_may (Ref r) s h = may_name (Ref r) s h
-  field_may (Cell u ds ss) s h = h
+      from : MayName ts (Ref r) s → NamesStruct tops (Ref r) s
+      from h = let p = top_place ts tops r h.0 are h.1 in p.1 ∙ ap (λ (z : ℕ). Some z) (h.2 p.0 p.2)
+  names_alike (Cell u ds ss) s = (λ h. h, λ h. h)
 
-  end_may : (s : ℕ) (x : Slot) (y : Symbol) → EndFits face tops s x y → EndMayFit face ts s x y
-  end_may s (Field f) y h = (h.0, h.1, field_may y h.0 h.2)
-  end_may s (Link b) y h =
-      (h.0, h.1, h.2, h.3, h.4, elim h.5 [ inl n ↦ inl (may_name y h.1 n) | inr d ↦ inr d ])
-  end_may s (Hook b) y h = h
+  field_alike : (y : Symbol) (s : ℕ) → FieldEnds tops s y ↔ FieldMayEnd ts s y
+  field_alike Null s = (λ h. tt, λ h. tt)
+  field_alike Uninit s = (λ h. tt, λ h. tt)
+  field_alike Dangling s = (λ h. tt, λ h. tt)
+  field_alike (Ref r) s = names_alike (Ref r) s
+  field_alike (Cell u ds ss) s = (λ h. h, λ h. h)
 
-  ends_may : (s : ℕ) (ss : List Slot) (ys : List Symbol) → EndsFit face tops s ss ys → EndsMayFit face ts s ss ys
-  ends_may s [] [] h = tt
-  ends_may s [] (y ∷ ys) h = h
-  ends_may s (Hook b ∷ ss) ys h = (h.0, ends_may s ss ys h.1)
-  ends_may s (Field f ∷ ss) [] h = h
-  ends_may s (Field f ∷ ss) (y ∷ ys) h = (end_may s (Field f) y h.0, ends_may s ss ys h.1)
-  ends_may s (Link b ∷ ss) [] h = h
-  ends_may s (Link b ∷ ss) (y ∷ ys) h = (end_may s (Link b) y h.0, ends_may s ss ys h.1)
+  end_alike : (s : ℕ) (x : Slot) (y : Symbol) → EndFits face tops s x y ↔ EndMayFit face ts s x y
+  end_alike s (Field f) y =
+      (λ h. (h.0, h.1, (field_alike y h.0).0 h.2), λ h. (h.0, h.1, (field_alike y h.0).1 h.2))
+  end_alike s (Link b) y = (
+    λ h. (h.0, h.1, h.2, h.3, h.4, elim h.5 [ inl n ↦ inl ((names_alike y h.1).0 n) | inr d ↦ inr d ]),
+    λ h. (h.0, h.1, h.2, h.3, h.4, elim h.5 [ inl n ↦ inl ((names_alike y h.1).1 n) | inr d ↦ inr d ]),
+  )
+  end_alike s (Hook b) y = (λ h. h, λ h. h)
+
+  -- so they fit, or not, by both
+  pub ends_alike : (s : ℕ) (ss : List Slot) (ys : List Symbol) → EndsFit face tops s ss ys ↔ EndsMayFit face ts s ss ys
+  ends_alike s [] [] = (λ h. tt, λ h. tt)
+  ends_alike s [] (y ∷ ys) = (λ h. h, λ h. h)
+  ends_alike s (Hook b ∷ ss) ys = let k = ends_alike s ss ys in (λ h. (h.0, k.0 h.1), λ h. (h.0, k.1 h.1))
+  ends_alike s (Field f ∷ ss) [] = (λ h. h, λ h. h)
+  ends_alike s (Field f ∷ ss) (y ∷ ys) =
+      let e = end_alike s (Field f) y in
+      let k = ends_alike s ss ys in (λ h. (e.0 h.0, k.0 h.1), λ h. (e.1 h.0, k.1 h.1))
+  ends_alike s (Link b ∷ ss) [] = (λ h. h, λ h. h)
+  ends_alike s (Link b ∷ ss) (y ∷ ys) =
+      let e = end_alike s (Link b) y in
+      let k = ends_alike s ss ys in (λ h. (e.0 h.0, k.0 h.1), λ h. (e.1 h.0, k.1 h.1))
 
   -- Cells.
 
   right_cell : (p : Spot) → IsFilledSpot face tops p → IsRightCell face ts p
-  right_cell p h = record { ends = ends_may p.shape p.slots p.ends h.ends; order = h.order; once = h.once }
+  right_cell p h = record { ends = (ends_alike p.shape p.slots p.ends).0 h.ends; order = h.order; once = h.once }
 
   right_port : (fields : List ℕ) (p : Spot) → IsDistinct fields → IsPortSpot face tops fields p → IsRightPort face ts p
   right_port fields p d h = record {
-    ends = ends_may p.shape p.slots p.ends h.ends;
+    ends = (ends_alike p.shape p.slots p.ends).0 h.ends;
     order = h.order;
     once = distinct_moved h.once d;
   }
@@ -268,7 +283,7 @@ module _ (face : Face) (T : List BoxDef) (b : BoxDef) (sound : SoundBox face T b
       let p = place_of b.inside.autos a i in
       let c = choice_with b.inside.autos sound.full p.0 a t p.1 h in
       let f = sound.fits c.0 c.1 in
-      has_top c.0 f.tops p.0 t f.are c.2
+      let k = top_place c.0 f.tops p.0 t f.are c.2 in (k.0, k.2)
 
   pub port_struct : (r s u : ℕ) (a : Automaton) (t : Tree)
       → slice_get (structs_of b.face.input b.face.output) r ≡ Some s

@@ -1,15 +1,10 @@
 -- A box that breaks none of the rules and has a face is sound, and a sound box is so.
-use Rattle.std.proofs.Common.{◌≡◌, ◌≢◌, inl, inr, ℕ, zero, suc, List, [], ◌∷◌, ◌++◌}
+use Rattle.std.proofs.Common.{◌≡◌, ◌≢◌, inl, inr, ℕ, suc, List, [], ◌∷◌, ◌++◌}
 use Rattle.std.proofs.Common.{length, Option, Some, None, slice_get, refl, ap, subst, ◌∙◌, arith}
-use Rattle.std.proofs.lemmas.Option.{none-some, same_Some}
 use Rattle.fore_base.specs.Lists.{IsIn, Every}
 use Rattle.fore_base.proofs.ListLemmas.{every_weaker}
 use Rattle.ta_core.specs.Auto.{Automaton}
 use Rattle.ta_core.specs.Language.{InLanguage}
-use Rattle.ta_core.specs.declared.symbol.Slot.{Slot}
-use Rattle.ta_core.specs.declared.symbol.Slot.TheVariants.{Field, Link, Hook}
-use Rattle.ta_core.specs.declared.symbol.Symbol.{Symbol}
-use Rattle.ta_core.specs.declared.symbol.Symbol.TheVariants.{Null, Uninit, Dangling, Ref, Cell}
 use Rattle.ta_core.specs.declared.tree.Tree.{Tree}
 use Rattle.fa_core.specs.declared.boxes.BoxDef.{BoxDef}
 use Rattle.fa_core.specs.declared.faces.BoxFace.{BoxFace}
@@ -17,7 +12,7 @@ use Rattle.fa_core.specs.declared.faces.Face.{Face}
 use Rattle.fa_core.specs.Boxes.{IsPortFilled, InsideFilled, InsideRulesFit, port_structs, port_fields, Begins}
 use Rattle.fa_core.specs.Boxes.{InsideFits}
 use Rattle.fa_core.specs.Boxes.{CoverSome, PortsCover, SoundBox}
-use Rattle.fa_core.specs.Filled.{Choice, TopsAre, IsTopped, NamesStruct, FieldEnds, EndFits, EndsFit, IsFilledSpot}
+use Rattle.fa_core.specs.Filled.{Choice, TopsAre, IsTopped, IsFilledSpot}
 use Rattle.fa_core.specs.Filled.{Spot}
 use Rattle.fa_core.specs.Filled.{spots, given_at, HasField, HasSome}
 use Rattle.fa_core.specs.Folding.{covered_fields}
@@ -25,58 +20,24 @@ use Rattle.fa_core.specs.Rearranged.{Rearranged}
 use Rattle.fa_back.proofs.Dressable.{some_choice}
 use Rattle.fa_core.proofs.Rearranging.{back}
 use Rattle.fa_core.proofs.NodeSpots.{spots_out}
-use Rattle.fa_box_rules.specs.Cells.{MayName, FieldMayEnd, EndMayFit, EndsMayFit, IsRightCell}
+use Rattle.fa_box_rules.specs.Cells.{IsRightCell}
 use Rattle.fa_box_rules.specs.Cells.{IsRightUnder}
 use Rattle.fa_box_rules.specs.Cells.{AreRight}
 use Rattle.fa_box_rules.specs.Rules.{port_count, structs_of, root_fields, Gives, GivesOutput}
 use Rattle.fa_box_rules.specs.Rules.{inside_of}
 use Rattle.fa_box_rules.specs.Rules.{AreRefsThere, IsUnbroken}
-use Rattle.fa_box_rules.proofs.SoundBoxes.{nil_only, are_right, ports_differ}
+use Rattle.fa_box_rules.proofs.SoundBoxes.{nil_only, ends_alike, are_right, ports_differ}
 use Rattle.fa_box_rules.proofs.SoundBoxes.{ports_count, tree_topped, port_struct, face_is}
 
 -- From right cells to filled ones.
 
-top_place : (ts : List Tree) (tops : List ℕ) (r : ℕ) (t : Tree) → TopsAre ts tops → slice_get ts r ≡ Some t
-    → (s : ℕ) × (slice_get tops r ≡ Some s) × IsTopped s t
-top_place [] tops r t h e = absurd (none-some t e)
-top_place (u ∷ ts) [] r t h e = absurd h
-top_place (u ∷ ts) (x ∷ tops) zero t h e = (x, refl, subst (λ (z : Tree). IsTopped x z) (same_Some u t e) h.0)
-top_place (u ∷ ts) (x ∷ tops) (suc r) t h e = top_place ts tops r t h.1 e
-
 module _ (face : Face) (ts : List Tree) (tops : List ℕ) (are : TopsAre ts tops) where
-  names : (y : Symbol) (s : ℕ) → MayName ts y s → NamesStruct tops y s
-  names Null s h = h
-  names Uninit s h = h
-  names Dangling s h = h
-  names (Ref r) s h =
-      let p = top_place ts tops r h.0 are h.1 in
-      let q : p.0 ≡ s = h.2 p.0 p.2 in
-      p.1 ∙ ap (λ (z : ℕ). Some z) q
-  names (Cell u ds ss) s h = h
-
-  field_ends : (y : Symbol) (s : ℕ) → FieldMayEnd ts s y → FieldEnds tops s y
-  field_ends Null s h = tt
-  field_ends Uninit s h = tt
-  field_ends Dangling s h = tt
-  field_ends (Ref r) s h = names (Ref r) s h
-  field_ends (Cell u ds ss) s h = h
-
-  end_fits : (s : ℕ) (x : Slot) (y : Symbol) → EndMayFit face ts s x y → EndFits face tops s x y
-  end_fits s (Field f) y h = (h.0, h.1, field_ends y h.0 h.2)
-  end_fits s (Link b) y h = (h.0, h.1, h.2, h.3, h.4, elim h.5 [ inl n ↦ inl (names y h.1 n) | inr d ↦ inr d ])
-  end_fits s (Hook b) y h = h
-
-  ends_fit : (s : ℕ) (ss : List Slot) (ys : List Symbol) → EndsMayFit face ts s ss ys → EndsFit face tops s ss ys
-  ends_fit s [] [] h = tt
-  ends_fit s [] (y ∷ ys) h = h
-  ends_fit s (Hook b ∷ ss) ys h = (h.0, ends_fit s ss ys h.1)
-  ends_fit s (Field f ∷ ss) [] h = h
-  ends_fit s (Field f ∷ ss) (y ∷ ys) h = (end_fits s (Field f) y h.0, ends_fit s ss ys h.1)
-  ends_fit s (Link b ∷ ss) [] h = h
-  ends_fit s (Link b ∷ ss) (y ∷ ys) h = (end_fits s (Link b) y h.0, ends_fit s ss ys h.1)
-
   filled_cell : (p : Spot) → IsRightCell face ts p → IsFilledSpot face tops p
-  filled_cell p h = record { ends = ends_fit p.shape p.slots p.ends h.ends; order = h.order; once = h.once }
+  filled_cell p h = record {
+    ends = (ends_alike face ts tops are p.shape p.slots p.ends).1 h.ends;
+    order = h.order;
+    once = h.once;
+  }
 
   -- the inner roots
   inner_filled : (r : ℕ) (us : List Tree) → AreRight face ts r 0 us → InsideFilled face ts tops r [] us
@@ -95,7 +56,7 @@ module _ (face : Face) (ts : List Tree) (tops : List ℕ) (are : TopsAre ts tops
       let v = rw e at w in
       let n = rw e at m in
       rw o (rw e (
-        record { ends = ends_fit s h.1 _ v.0.ends; order = v.0.order; once = n },
+        record { ends = (ends_alike face ts tops are s h.1 _).1 v.0.ends; order = v.0.order; once = n },
         every_weaker (IsRightCell face ts) (IsFilledSpot face tops) _ filled_cell v.1,
       ))
 
