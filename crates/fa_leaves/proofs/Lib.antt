@@ -5,4 +5,5 @@ pub mod PluggedParts
 pub mod PluggedSigns
 pub mod PluggedTrees
 pub mod PluggedWays
+mod PutWays
 pub mod SameWays
