@@ -19,9 +19,10 @@ use Rattle.fa_core.specs.Boxes.{Boxes, head_of, heads}
 use Rattle.fa_core.specs.Dressed.{Nodes, Fact, Head, Points, facts, roots_of, nth_value, value_in}
 use Rattle.fa_core.specs.Filled.{numbered, fields_of}
 use Rattle.fa_core.specs.Member.{OfForest, points, store_facts, HasItsFields, StandsBy}
-use Rattle.fa_core.specs.Rearranged.{Rearranged, empty, keep, swap, chain, insert, in_order, IsRising, RisesFrom}
-use Rattle.fa_core.proofs.Rearranging.{equal, back, flat_mapped}
+use Rattle.fa_core.specs.Rearranged.{Rearranged, chain, insert, in_order, IsRising, RisesFrom}
+use Rattle.fa_core.proofs.Rearranging.{equal, back, flat_mapped, every_moved}
 use Rattle.fa_core.proofs.Sorting.{order_same}
+use Rattle.fa_core.proofs.Permuted.{in_rearranged}
 use Rattle.fa_facts.specs.Fields.{fields_at, fields_owed, IsNamed, FactNamed}
 use Rattle.fa_sample.specs.declared.drafts.Draft.{Draft}
 use Rattle.fa_sample.specs.declared.drafts.FieldValue.{FieldValue}
@@ -242,21 +243,6 @@ head_done k n (c ∷ cs) (inr h) = inr
     (head_done (suc k) n cs
     (subst (λ (z : List ℕ). IsIn n z) (heads_over k c.fields (draft_facts (suc k) cs)) h))
 
-every_moved : {X : Type 0} (P : X → Type 0) {xs ys : List X} → Rearranged xs ys → Every P xs → Every P ys
-every_moved P empty h = tt
-every_moved P (keep x r) h = (h.0, every_moved P r h.1)
-every_moved P (swap x y xs) h = (h.1.0, (h.0, h.1.1))
-every_moved P (chain a b) h = every_moved P b (every_moved P a h)
-
-in_moved : {X : Type 0} (z : X) {xs ys : List X} → Rearranged xs ys → IsIn z xs → IsIn z ys
-in_moved z empty h = h
-in_moved z (keep x r) (inl e) = inl e
-in_moved z (keep x r) (inr h) = inr (in_moved z r h)
-in_moved z (swap x y xs) (inl e) = inr (inl e)
-in_moved z (swap x y xs) (inr (inl e)) = inl e
-in_moved z (swap x y xs) (inr (inr h)) = inr (inr h)
-in_moved z (chain a b) h = in_moved z b (in_moved z a h)
-
 module _ (ns : List ℕ) (all : List CellRec) (there : (n : ℕ) → IsIn n ns → HasCell all n) where
   value_there : (v : Value) → IsNamed ns v → NamesCell all v
   value_there NullValue h = tt
@@ -313,7 +299,7 @@ module _ (t : Boxes) (F : Forest) (d : Nodes) (of : OfForest t.defs F d)
       (written_sorted (forest_out [] d) [] tt) (λ c. parts_moved t.face.shapes.structs c moved (full c))
 
   there : (m : ℕ) → IsIn m (heads (facts d)) → HasCell (cells_done 1 (written (forest_out [] d) [])) m
-  there m i = head_done 1 m (written (forest_out [] d) []) (in_moved m (flat_mapped head_of moved) i)
+  there m i = head_done 1 m (written (forest_out [] d) []) (in_rearranged m (flat_mapped head_of moved) i)
 
   -- the forest stands for the store by the dressed forest
   pub stands : StandsBy t.face.shapes.structs t.defs F d (store_made F (roots_of d) (written (forest_out [] d) []))
