@@ -1,5 +1,5 @@
 -- Where references are to roots that are there, each slot of a dressed forest ends at a cell of it, or at no cell.
-use Rattle.std.proofs.Common.{◌≡◌, ◌<◌, inl, inr, ℕ, zero, suc, List, [], ◌∷◌, ◌++◌, map, refl, sym, ap, subst}
+use Rattle.std.proofs.Common.{◌<◌, inl, inr, ℕ, zero, suc, List, ◌++◌, refl}
 use Rattle.std.proofs.Common.{not-suc-le-zero, le_of_suc-le-suc}
 use Rattle.fore_base.specs.Lists.{IsIn, Every}
 use Rattle.fore_base.specs.declared.store.Value.{Value}

@@ -1,12 +1,8 @@
 -- The edge of a fold, with an output and without; ports at two roots take apart.
-use Rattle.std.proofs.Common.{◌≡◌, ◌≢◌, ℕ, List, [], ◌∷◌, ◌++◌, refl, sym, ap, append-nil}
-use Rattle.fore_base.specs.declared.store.Value.{Value}
-use Rattle.fore_base.specs.declared.store.Value.TheVariants.{Cell}
+use Rattle.std.proofs.Common.{◌≡◌, ℕ, List, [], ◌∷◌, refl, sym, append-nil}
 use Rattle.fa_core.specs.Dressed.{Nodes, number, roots_of, inside_facts, SeenLink, SeenHook}
-use Rattle.fa_core.specs.Folding.{Ports}
-use Rattle.fa_core.specs.Rearranged.{Rearranged}
 use Rattle.fa_core.proofs.Rearranging.{equal}
-use Rattle.fa_unfold.specs.Opens.{Item, HasSlot, opened}
+use Rattle.fa_unfold.specs.Opens.{HasSlot, opened}
 use Rattle.fa_folding.specs.Folded.{node_or, root_cell}
 use Rattle.fa_folding.proofs.Law.{taken_items, none_items, port_cells}
 use Rattle.fa_folding.proofs.Lists.{ArePartsApart, eq_not}

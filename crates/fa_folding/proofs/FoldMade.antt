@@ -1,48 +1,49 @@
 -- The forest that the code makes is the one after the fold.
-use Rattle.std.proofs.Common.{◌≡◌, ◌≢◌, ◌↔◌, ◌<◌, ◌≤◌, ◌+◌, inl, inr, ℕ, zero, suc, Bool, true, false, true≢false, cond}
-use Rattle.std.proofs.Common.{nat_eq, if◌then◌else◌, length, List, [], ◌∷◌, ◌++◌, map, refl, sym, ap, ap₂, subst, ◌∙◌}
+use Rattle.std.proofs.Common.{◌≡◌, ◌↔◌, ◌<◌, ◌≤◌, ◌+◌, inl, inr, ℕ, Bool, true, false}
+use Rattle.std.proofs.Common.{nat_eq, if◌then◌else◌, length, List, [], ◌∷◌, ◌++◌, refl, sym, ap, ap₂, subst, ◌∙◌}
 use Rattle.std.proofs.Common.{Option, Some, None, slice_get, arith}
 use Rattle.std.proofs.lemmas.Bool.{eqb-true}
-use Rattle.std.proofs.lemmas.Option.{none-some, same_Some}
-use Rattle.fore_base.specs.Lists.{IsIn, Every, Paired, IsDistinct}
+use Rattle.std.proofs.lemmas.Option.{same_Some}
+use Rattle.fore_base.specs.Lists.{IsIn, Every, Paired}
 use Rattle.fore_base.specs.declared.store.Datum.{Datum}
-use Rattle.fore_base.proofs.ListLemmas.{every_in, in_right, place_of as place_in}
+use Rattle.fore_base.proofs.ListLemmas.{every_in, in_right, in_from_place}
 use Rattle.ta_core.specs.Arity.{arity}
 use Rattle.ta_core.specs.Auto.{Automaton, IsRanked}
-use Rattle.ta_core.specs.Language.{InLanguage, RunEach, RunOf, run, run_none, run_more}
+use Rattle.ta_core.specs.Language.{InLanguage, RunEach, RunOf, run_none, run_more}
 use Rattle.ta_core.specs.Single.{HasOneTop}
 use Rattle.ta_core.specs.declared.auto.Rule.{Rule}
 use Rattle.ta_core.specs.declared.symbol.Slot.{Slot}
-use Rattle.ta_core.specs.declared.symbol.Slot.TheVariants.{Field, Link, Hook}
+use Rattle.ta_core.specs.declared.symbol.Slot.TheVariants.{Link, Hook}
 use Rattle.ta_core.specs.declared.symbol.Symbol.{Symbol}
 use Rattle.ta_core.specs.declared.symbol.Symbol.TheVariants.{Ref, Cell as CellSymbol}
-use Rattle.ta_core.specs.declared.tree.Tree.{Tree, Tree-F, out-Tree, out-roll-Tree, roll-Tree, roll-out-Tree}
+use Rattle.ta_core.specs.declared.tree.Tree.{Tree, out-Tree, roll-Tree, roll-out-Tree}
 use Rattle.ta_core.proofs.Runs.{run_tree, tree_of}
 use Rattle.fa_core.specs.declared.boxes.BoxDef.{BoxDef}
 use Rattle.fa_core.specs.declared.faces.BoxFace.{BoxFace}
 use Rattle.fa_core.specs.declared.forest.Forest.{Forest}
-use Rattle.fa_core.specs.declared.forest.Target.{Target}
-use Rattle.fa_core.specs.declared.forest.Target.TheVariants.{Null, Uninit, Dangling, At}
+use Rattle.fa_core.specs.declared.forest.Target.TheVariants.{At}
 use Rattle.fa_core.specs.Boxes.{Boxes, faces_of}
 use Rattle.fa_core.specs.Filled.{HasSome}
-use Rattle.fa_core.specs.Folding.{ArePortRoots, FoldOf, IsFoldedAuto, IsPart, IsPartWithin, IsPortRoot, Ports, PortsAre}
-use Rattle.fa_core.specs.Folding.{box_slot, cell_of, gained, left, moved_target, moved_tree, number_without, taken_at}
+use Rattle.fa_core.specs.Folding.{ArePortRoots, IsFoldedAuto, IsPart, IsPartWithin, IsPortRoot, Ports, PortsAre}
+use Rattle.fa_core.specs.Folding.{box_slot, cell_of, gained, left, moved_tree, number_without, taken_at}
 use Rattle.fa_core.specs.Folding.{top_places}
-use Rattle.fa_core.specs.Placed.{placed_auto, placed_leaf, placed_rule, placed_symbol}
+use Rattle.fa_core.specs.Placed.{placed_rule, placed_symbol}
 use Rattle.fa_core.proofs.Placing.{placed_ranked}
 use Rattle.fa_split.specs.Split.{top_rule}
 use Rattle.fa_split.proofs.FreshStates.{fresh_run}
 use Rattle.fa_split.proofs.TopRules.{top_is, tree_by_top}
 use Rattle.fa_unfold.specs.Sites.{IsOver}
-use Rattle.fa_unfold.specs.Slots.{Place, joined}
+use Rattle.fa_unfold.specs.Slots.{joined}
 use Rattle.fa_unfold.proofs.PlaceRuns.{IsPlace}
-use Rattle.fa_folding.specs.Gaining.{edge_place, edge_rules, gained_auto, input_auto, output_auto}
+use Rattle.fa_folding.specs.Gaining.{edge_place, edge_rules, input_auto, output_auto}
 use Rattle.fa_folding.specs.Made.{folded_component, new_output, other_auto}
 use Rattle.fa_folding.proofs.FoldedAutos.{gained_folds, plain_folds}
 use Rattle.fa_folding.proofs.FoldedPlaces.{grown_key}
 use Rattle.fa_folding.proofs.GainedTrees.{gained_language}
 use Rattle.fa_folding.proofs.Moving.{moved_auto, moved_language}
 use Rattle.fa_folding.proofs.SlotRuns.{Grown, SlotRuns, runs_none, runs_one}
+use Rattle.fa_merge.proofs.OtherOrders.{get_mapped}
+use Rattle.fa_merge.proofs.MergedSound.{got_mapped}
 
 -- What the slot of the box gains: its leaf has one tree.
 
@@ -144,29 +145,17 @@ input_port bs b i (Some j) ps ss autos (a, c, ins, outs, t, at, to, fields, fiel
 
 -- One rule stands at the top, under new numbers too.
 
-pub mapped_got : {X Y : Type 0} (h : X → Y) (xs : List X) (i : ℕ) (y : Y) → slice_get (map h xs) i ≡ Some y → (x : X)
-    × (slice_get xs i ≡ Some x) × (y ≡ h x)
-mapped_got h [] i y e = absurd (none-some y e)
-mapped_got h (x ∷ xs) zero y e = (x, refl, sym (same_Some (h x) y e))
-mapped_got h (x ∷ xs) (suc i) y e = mapped_got h xs i y e
-
-pub got_mapped : {X Y : Type 0} (h : X → Y) (xs : List X) (i : ℕ) (x : X) → slice_get xs i ≡ Some x
-    → slice_get (map h xs) i ≡ Some (h x)
-got_mapped h [] i x e = absurd (none-some x e)
-got_mapped h (y ∷ xs) zero x e = ap (λ z. Some (h z)) (same_Some y x e)
-got_mapped h (y ∷ xs) (suc i) x e = got_mapped h xs i x e
-
 abbrev pub one_moved : (h : ℕ → ℕ) (a : Automaton) → HasOneTop a → HasOneTop (moved_auto h a)
 one_moved h a k = record {
   root = k.root;
   alone = k.alone;
   place = k.place;
   rule = placed_rule (λ z. At (h z)) k.rule;
-  there = got_mapped (placed_rule (λ z. At (h z))) a.rules k.place k.rule k.there;
+  there = get_mapped (placed_rule (λ z. At (h z))) a.rules k.place k.rule k.there;
   top = k.top;
   only =
       λ i r e s.
-      (let m = mapped_got (placed_rule (λ z. At (h z))) a.rules i r e in
+      (let m = got_mapped (placed_rule (λ z. At (h z))) a.rules i r e in
       k.only i m.0 m.1 (sym (ap (λ (x : Rule). x.state) m.2) ∙ s));
 }
 
@@ -201,12 +190,7 @@ module _ (t : Boxes) (F : Forest) (over : IsOver t F) (n i : ℕ) (def : BoxDef)
   goal c = IsFoldedAuto bs f (gained (box_slot f n out) i r) fs a c
 
   auto_in : IsIn a F.autos
-  auto_in = got_in F.autos r at
-    where
-      got_in : (autos : List Automaton) (r : ℕ) → slice_get autos r ≡ Some a → IsIn a autos
-      got_in [] r e = absurd (none-some a e)
-      got_in (c ∷ autos) zero e = inl (sym (same_Some c a e))
-      got_in (c ∷ autos) (suc r) e = inr (got_in autos r e)
+  auto_in = in_from_place F.autos r a at
 
   pub ranked_here : IsRanked b
   ranked_here = placed_ranked (λ z. At (h z)) a (every_in IsRanked F.autos a over.ranked auto_in)

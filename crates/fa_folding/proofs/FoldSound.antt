@@ -1,17 +1,15 @@
 -- The forest after the fold is sound: its components fit, have one signature at each state, and are not empty.
-use Rattle.std.proofs.Common.{true≢false, cond, filter, ◌+◌, ◌≡◌, ◌≢◌, ◌<◌, inl, inr, ℕ, zero, suc, Bool, true, false}
-use Rattle.std.proofs.Common.{nat_eq, not}
-use Rattle.std.proofs.Common.{if◌then◌else◌, length, List, [], ◌∷◌, ◌++◌, map}
-use Rattle.std.proofs.Common.{refl, sym, ap, subst, ◌∙◌, Option, Some, None, IsSome, IsNone, slice_get, arith}
-use Rattle.std.proofs.lemmas.Bool.{eqb-true}
-use Rattle.std.proofs.lemmas.Option.{none-some, same_Some}
+use Rattle.std.proofs.Common.{true≢false, ◌+◌, ◌≡◌, ◌≢◌, ℕ, true, false}
+use Rattle.std.proofs.Common.{not}
+use Rattle.std.proofs.Common.{length, List, [], ◌∷◌, ◌++◌, map}
+use Rattle.std.proofs.Common.{refl, sym, subst, ◌∙◌, Option, Some, None}
 use Rattle.fore_base.specs.Lists.{IsIn, Every, Paired}
 use Rattle.fore_base.specs.declared.shape.Shapes.{Shapes}
 use Rattle.fore_base.specs.declared.store.Datum.{Datum}
-use Rattle.fore_base.proofs.ListLemmas.{every_append, every_in, every_map, in_every}
+use Rattle.fore_base.proofs.ListLemmas.{every_append, every_in, every_map}
 use Rattle.ta_core.specs.Arity.{arity}
 use Rattle.ta_core.specs.Auto.{Automaton, IsRanked}
-use Rattle.ta_core.specs.Language.{InLanguage, RunOf}
+use Rattle.ta_core.specs.Language.{RunOf}
 use Rattle.ta_core.specs.Single.{HasOneTop}
 use Rattle.ta_core.specs.declared.auto.Rule.{Rule}
 use Rattle.ta_core.specs.declared.symbol.Slot.{Slot}
@@ -21,12 +19,10 @@ use Rattle.ta_core.specs.declared.tree.Tree.{Tree}
 use Rattle.fa_core.specs.declared.boxes.BoxDef.{BoxDef}
 use Rattle.fa_core.specs.declared.faces.BoxFace.{BoxFace}
 use Rattle.fa_core.specs.declared.faces.Face.{Face}
-use Rattle.fa_core.specs.declared.forest.Forest.{Forest}
-use Rattle.fa_core.specs.Boxes.{AreSoundOver, BackHolds, Boxes, faces_of}
+use Rattle.fa_core.specs.Boxes.{AreSoundOver, BackHolds, faces_of}
 use Rattle.fa_core.specs.Faces.{IsGiving}
-use Rattle.fa_core.specs.Filled.{DatumFits, HasSignatures, HasSome, IsSound, RulesFit, SlotFits, SymbolFits, face_of}
-use Rattle.fa_core.specs.Folding.{IsPart, IsPartWithin, IsPortRoot, PortsAre, box_slot, is_one_of, symbol_slots}
-use Rattle.fa_core.specs.Folding.{taken_at}
+use Rattle.fa_core.specs.Filled.{HasSignatures, HasSome, RulesFit, SlotFits, SymbolFits}
+use Rattle.fa_core.specs.Folding.{is_one_of, symbol_slots}
 use Rattle.fa_split.specs.Giving.{SlotGives, SymbolGives}
 use Rattle.fa_split.specs.Split.{top_rule}
 use Rattle.fa_split.proofs.LinksGive.{faces_give}
@@ -35,11 +31,11 @@ use Rattle.fa_unfold.specs.Slots.{Place, joined, place_key, rule_places, with_sl
 use Rattle.fa_unfold.proofs.FittingRules.{rule_slots}
 use Rattle.fa_unfold.proofs.Joins.{joined_every}
 use Rattle.fa_unfold.proofs.PlaceRuns.{IsPlace}
-use Rattle.fa_folding.specs.Gaining.{edge_place, edge_rules, gained_auto, left_places}
-use Rattle.fa_folding.proofs.FoldMade.{edge_above, edge_only, edge_right, edge_runs, one_leaf}
+use Rattle.fa_folding.specs.Gaining.{gained_auto, left_places}
 use Rattle.fa_folding.proofs.GainedSigned.{IsGrown, gained_signed}
 use Rattle.fa_folding.proofs.GainedTrees.{gained_language, gained_tree}
 use Rattle.fa_folding.proofs.SlotRuns.{Grown, SlotRuns}
+use Rattle.fa_folding.proofs.Lists.{every_filter}
 
 -- The boxes of a table that lead back give something.
 
@@ -56,14 +52,6 @@ pub table_gives : (shapes : Shapes) (before defs : List BoxDef) → AreSoundOver
 table_gives shapes before [] h = tt
 table_gives shapes before (b ∷ defs) h =
     (back_gives before b.face b.face.output b.inside.autos h.0.back, table_gives shapes (before ++ b ∷ []) defs h.1)
-
-every_filter : {X : Type 0} (q : X → Bool) (P : X → Type 0) (xs : List X) → Every P xs → Every P (filter q xs)
-every_filter q P [] h = tt
-every_filter q P (x ∷ xs) h = here (q x) (every_filter q P xs h.1)
-  where
-    here : (b : Bool) → Every P (filter q xs) → Every P (cond b (x ∷ filter q xs) (filter q xs))
-    here true k = (h.0, k)
-    here false k = k
 
 -- a component that is one of a sound forest's
 pub record IsGood (face : Face) (a : Automaton) : Type 0 where

@@ -1,59 +1,54 @@
 -- The forest that the code makes of a forest put in the order of the roots that are kept: it is the one after the fold.
-use Rattle.std.proofs.Common.{◌≡◌, ◌<◌, ◌+◌, inl, inr, ℕ, zero, suc, Bool, true, false, length, List, [], ◌∷◌, ◌++◌}
-use Rattle.std.proofs.Common.{map}
-use Rattle.std.proofs.Common.{refl, sym, ap, ap₂, subst, ◌∙◌, Option, Some, None, slice_get, arith, append-nil}
-use Rattle.std.proofs.lemmas.Option.{none-some, same_Some}
-use Rattle.fore_base.specs.Lists.{IsIn, Every, IsDistinct}
-use Rattle.ta_core.specs.Auto.{Automaton}
-use Rattle.ta_core.specs.Language.{InLanguage}
+use Rattle.std.proofs.Common.{◌≡◌, ◌<◌, ◌+◌, inl, inr, ℕ, zero, suc, length, List, [], ◌∷◌, ◌++◌, length-append, nat_eq}
+use Rattle.std.proofs.Common.{map, Bool, true, false, if◌then◌else◌}
+use Rattle.std.proofs.Common.{refl, sym, ap, ap₂, subst, ◌∙◌, Option, Some, slice_get, arith}
+use Rattle.std.proofs.lemmas.Option.{none-some, same_Some, slice_get_within}
+use Rattle.std.proofs.lemmas.Bool.{eqb-true}
+use Rattle.fore_base.specs.Lists.{IsIn, IsDistinct}
+use Rattle.fore_base.proofs.ListLemmas.{in_from_place, place_of as place_in_list}
+use Rattle.ta_core.specs.Auto.{Automaton, IsRanked}
+use Rattle.ta_core.specs.Single.{HasOneTop}
+use Rattle.ta_core.specs.declared.symbol.Symbol.TheVariants.{Cell as CellSymbol}
 use Rattle.fa_core.specs.declared.boxes.BoxDef.{BoxDef}
 use Rattle.fa_core.specs.declared.faces.BoxFace.{BoxFace}
 use Rattle.fa_core.specs.declared.forest.Forest.{Forest}
 use Rattle.fa_core.specs.declared.forest.Target.{Target}
 use Rattle.fa_core.specs.declared.forest.Target.TheVariants.{Null, Uninit, Dangling, At}
 use Rattle.fa_core.specs.Boxes.{Boxes, faces_of}
-use Rattle.fa_core.specs.Choices.{bares}
 use Rattle.fa_core.specs.Dressed.{Nodes}
 use Rattle.fa_core.specs.Folding.{FoldOf, IsFoldedAuto, IsPart, IsPartWithin, box_slot, gained, moved_target}
-use Rattle.fa_core.specs.Folding.{number_without, taken_at}
+use Rattle.fa_core.specs.Folding.{number_without, taken_at, IsPortRoot}
 use Rattle.fa_core.specs.Member.{OfForest}
 use Rattle.fa_core.specs.Placed.{placed_auto, placed_leaf}
 use Rattle.fa_core.specs.Rearranged.{Rearranged, chain}
 use Rattle.fa_core.proofs.Dressing.{dress_all}
-use Rattle.fa_core.proofs.Rearranging.{back}
+use Rattle.fa_core.proofs.Rearranging.{back, long_same}
+use Rattle.fa_core.proofs.WaysOf.{map-append}
 use Rattle.fa_back.proofs.Dressable.{some_choice}
 use Rattle.fa_merge.specs.Reordered.{component_at, counted, place_of, renumber, reordered}
 use Rattle.fa_merge.specs.inner.Orders.{IsOrder}
 use Rattle.fa_merge.proofs.MergedAnywhere.{an_order}
-use Rattle.fa_merge.proofs.OtherOrders.{place_root}
+use Rattle.fa_merge.proofs.OtherOrders.{place_root, get_mapped, counted_length, mapped_length}
 use Rattle.fa_sound.proofs.ComponentLemmas.{item_component}
 use Rattle.fa_split.proofs.SplitCells.{refers_well}
 use Rattle.fa_unfold.specs.Sites.{IsOver}
 use Rattle.fa_unfold.proofs.EndStructs.{insides_of}
 use Rattle.fa_unfold.proofs.PartItems.{comm}
-use Rattle.fa_folding.specs.Made.{IsFoldOf, folded_autos, folded_component, folded_forest, new_output}
-use Rattle.fa_folding.proofs.FoldMade.{component_folds, got_mapped}
-use Rattle.fa_folding.proofs.FoldedMembers.{both_long, counted_long, moved_long}
+use Rattle.fa_folding.specs.Made.{IsFoldOf, folded_autos, folded_component, folded_forest, new_output, other_auto}
+use Rattle.fa_folding.proofs.FoldMade.{component_folds, taken_port, input_port, ranked_here, one_here, one_moved}
 use Rattle.fa_folding.proofs.FoldedTables.{low}
 use Rattle.fa_folding.proofs.Folding.{as_many, low_here, once_here}
 use Rattle.fa_folding.proofs.Moving.{moved_auto}
 use Rattle.fa_folding.proofs.Numbers.{all_roots, counted_above, in_counted, in_kept, kept_in, kept_number}
+use Rattle.fa_folding.proofs.FoldMade.{top_here}
 use Rattle.fa_folding.specs.Made.{kept_of}
+use Rattle.fa_folding.specs.Gaining.{input_auto, output_auto}
+use Rattle.fa_split.specs.Split.{top_rule}
 
 pub got_left : {X : Type 0} (xs ys : List X) (j : ℕ) (x : X) → slice_get xs j ≡ Some x → slice_get (xs ++ ys) j ≡ Some x
 got_left [] ys j x e = absurd (none-some x e)
 got_left (z ∷ xs) ys zero x e = e
 got_left (z ∷ xs) ys (suc j) x e = got_left xs ys j x e
-
-place_there : (xs : List ℕ) (k : ℕ) → IsIn k xs → (j : ℕ) × (slice_get xs j ≡ Some k)
-place_there [] k i = absurd i
-place_there (x ∷ xs) k (inl e) = (0, ap (λ (z : ℕ). Some z) (sym e))
-place_there (x ∷ xs) k (inr i) = let w = place_there xs k i in (suc w.0, w.1)
-
-got_low : {X : Type 0} (xs : List X) (r : ℕ) (x : X) → slice_get xs r ≡ Some x → r < length xs
-got_low [] r x e = absurd (none-some x e)
-got_low (y ∷ xs) zero x e = omega arith
-got_low (y ∷ xs) (suc r) x e = let l = got_low xs r x e in omega (arith, l)
 
 module _ (bs : List BoxFace) (ps : List (ℕ × List ℕ)) (n i : ℕ) (out : Option ℕ) where
   autos_got : (rs : List ℕ) (autos : List Automaton) (j r : ℕ) (a : Automaton) → slice_get rs j ≡ Some r
@@ -70,14 +65,6 @@ module _ (bs : List BoxFace) (ps : List (ℕ × List ℕ)) (n i : ℕ) (out : Op
   autos_long [] xs ys l = refl
   autos_long (x ∷ rs) [] ys l = absurd (omega (arith, l))
   autos_long (x ∷ rs) (b ∷ xs) ys l = ap (λ (k : ℕ). suc k) (autos_long rs xs ys (omega (arith, l)))
-
-map_long : {X Y : Type 0} (h : X → Y) (xs : List X) → length (map h xs) ≡ length xs
-map_long h [] = refl
-map_long h (x ∷ xs) = ap (λ (k : ℕ). suc k) (map_long h xs)
-
-map_two : {X Y : Type 0} (h : X → Y) (xs ys : List X) → map h (xs ++ ys) ≡ map h xs ++ map h ys
-map_two h [] ys = refl
-map_two {X} {Y} h (x ∷ xs) ys = ap (λ (z : List Y). h x ∷ z) (map_two h xs ys)
 
 module _ (t : Boxes) (F : Forest) (over : IsOver t F) (n i : ℕ) (def : BoxDef) (there : slice_get t.defs n ≡ Some def)
     (out : Option ℕ) (g : BoxDef) (p : IsPart (faces_of t.defs) F def i out g) (fit : IsPartWithin g def) where
@@ -137,21 +124,62 @@ module _ (t : Boxes) (F : Forest) (over : IsOver t F) (n i : ℕ) (def : BoxDef)
 
   pub same_numbers : (k : ℕ) → k < N → (IsIn k p.inner → ⊥) → h k ≡ f k
   same_numbers k l q =
-      let w = place_there kept k (kept_there k l q) in
+      let w = place_in_list kept k (kept_there k l q) in
       let z = numbers w.0 k w.1 in
       z.0 ∙ sym z.1
 
   -- a root that is kept is there, and is no inner root
   pub kept_here : (j k : ℕ) → slice_get kept j ≡ Some k → (k < N) × (IsIn k p.inner → ⊥)
   kept_here j k e =
-      let w = in_kept p.inner (counted 0 N) k (got_in kept j e) in
+      let w = in_kept p.inner (counted 0 N) k (in_from_place kept j k e) in
       let l = (counted_above 0 N k w.1).1 in
       ((omega (arith, l)), w.0)
+
+  -- a root of which fields are taken is a port, and so is the input
+  pub taken_here : (r x : ℕ) (gs : List ℕ) → taken_at p.ports r ≡ x ∷ gs
+      → (s : ℕ) × (fs : List ℕ) × IsPortRoot F.autos r s fs
+  taken_here r x gs e =
+      taken_port F.autos p.ports p.shapes r x p.roots (subst (IsIn x) (sym e) (inl refl))
+
+  pub input_here : (r : ℕ) → nat_eq i r ≡ true → (s : ℕ) × (fs : List ℕ) × IsPortRoot F.autos r s fs
+  input_here r e =
+      let k = input_port bs def i out p.ports p.shapes F.autos p.are_ports p.roots in
+      (k.0, k.1, subst (λ (z : ℕ). IsPortRoot F.autos z k.0 k.1) (eqb-true i r e) k.2)
+
+  -- what holds of a component, and of it as the input and as another port, holds of what the fold makes of it
+  pub folded_has : (P : Automaton → Type 0) (r : ℕ) (b : Automaton) → P b
+      → ((s : ℕ) (fs : List ℕ) → IsPortRoot F.autos r s fs
+      → P (input_auto bs (taken_at p.ports r) n (new_output p.inner out) b))
+      → ((s : ℕ) (fs : List ℕ) → IsPortRoot F.autos r s fs → P (output_auto bs (taken_at p.ports r) b))
+      → P (folded_component bs p.ports n i (new_output p.inner out) r b)
+  folded_has P r b own input output = here (nat_eq i r) refl
     where
-      got_in : (xs : List ℕ) (j : ℕ) → slice_get xs j ≡ Some k → IsIn k xs
-      got_in [] j e = absurd (none-some k e)
-      got_in (x ∷ xs) zero e = inl (sym (same_Some x k e))
-      got_in (x ∷ xs) (suc j) e = inr (got_in xs j e)
+      rest : (gs : List ℕ) → taken_at p.ports r ≡ gs → P (other_auto bs gs b)
+      rest [] e = own
+      rest (x ∷ gs) e =
+          let k = taken_here r x gs e in
+          subst (λ (z : List ℕ). P (output_auto bs z b)) e (output k.0 k.1 k.2)
+
+      here : (w : Bool) → nat_eq i r ≡ w
+          → P (if w then input_auto bs (taken_at p.ports r) n (new_output p.inner out) b
+          else other_auto bs (taken_at p.ports r) b)
+      here true e = let k = input_here r e in input k.0 k.1 k.2
+      here false e = rest (taken_at p.ports r) refl
+
+  -- A root that is kept, with its new numbers.
+
+  module _ (r : ℕ) (a : Automaton) (at : slice_get F.autos r ≡ Some a) (low_r : r < length F.autos)
+      (own : IsIn r p.inner → ⊥) where
+    pub kept_ranked : IsRanked (moved_auto h a)
+    kept_ranked = ranked_here t F over n i def there out g p fit h same_numbers r a at low_r own
+
+    module _ (shape : ℕ) (own_fields : List ℕ) (port : IsPortRoot F.autos r shape own_fields) where
+      pub kept_one : HasOneTop (moved_auto h a)
+      kept_one = one_moved h a
+          (one_here t F over n i def there out g p fit h same_numbers r a at low_r own shape own_fields port)
+
+      pub kept_top : (top_rule (moved_auto h a)).symbol ≡ CellSymbol shape port.datums port.slots
+      kept_top = top_here t F over n i def there out g p fit h same_numbers r a at low_r own shape own_fields port
 
   abbrev P : Forest
   P = reordered order F
@@ -176,9 +204,9 @@ module _ (t : Boxes) (F : Forest) (over : IsOver t F) (n i : ℕ) (def : BoxDef)
 
   kept_many : length kept + length p.inner ≡ N
   kept_many =
-      let a = moved_long (all_roots p.inner N differ inner_low) in
-      let b = both_long p.inner kept in
-      let c = counted_long 0 N in
+      let a = long_same (all_roots p.inner N differ inner_low) in
+      let b = length-append p.inner kept in
+      let c = counted_length 0 N in
       omega (arith, a, b, c)
 
   abbrev numbered : ℕ → Automaton
@@ -187,10 +215,10 @@ module _ (t : Boxes) (F : Forest) (over : IsOver t F) (n i : ℕ) (def : BoxDef)
   many : length made.autos + length p.inner ≡ N
   many =
       let a = autos_long bs p.ports n i (new_output p.inner out) kept (map numbered kept) (map numbered p.inner)
-      (map_long numbered kept) in
+      (mapped_length numbered kept) in
       let b : length made.autos ≡ length kept =
       ap (λ (z : List Automaton). length (folded_autos bs p.ports n i (new_output p.inner out) kept z))
-      (map_two numbered kept p.inner) ∙ a in
+      (map-append numbered kept p.inner) ∙ a in
       let c = kept_many in
       omega (arith, b, c)
 
@@ -198,11 +226,11 @@ module _ (t : Boxes) (F : Forest) (over : IsOver t F) (n i : ℕ) (def : BoxDef)
       × (slice_get made.autos (f r) ≡ Some c)
       × IsFoldedAuto bs f (gained (box_slot f n out) i r) (taken_at p.ports r) a c
   component_there r a e q =
-      let l = got_low F.autos r a e in
-      let w = place_there kept r (kept_there r l q) in
+      let l = slice_get_within F.autos r a e in
+      let w = place_in_list kept r (kept_there r l q) in
       let z = numbers w.0 r w.1 in
       let o : slice_get P.autos w.0 ≡ Some (moved_auto h a) =
-      got_mapped numbered order w.0 r (got_left kept p.inner w.0 r w.1)
+      get_mapped numbered order w.0 r (got_left kept p.inner w.0 r w.1)
       ∙ ap (λ (b : Automaton). Some (placed_auto (renumber h) b)) (sym (item_component F.autos r a e)) in (
         folded_component bs p.ports n i (new_output p.inner out) r (moved_auto h a),
         subst (λ (k : ℕ). slice_get made.autos k

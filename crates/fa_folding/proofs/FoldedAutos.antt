@@ -1,5 +1,5 @@
 -- Components after a fold: their trees are the folds of the trees before.
-use Rattle.std.proofs.Common.{◌≡◌, ◌↔◌, ◌<◌, ℕ, Bool, true, false, cond, nat_eq, length, List, [], ◌∷◌, map, refl, sym}
+use Rattle.std.proofs.Common.{◌≡◌, ◌↔◌, ◌<◌, ℕ, Bool, true, false, cond, length, List, [], ◌∷◌, refl, sym}
 use Rattle.std.proofs.Common.{ap, ap₂, subst, ◌∙◌, Option, Some, slice_get, arith}
 use Rattle.fore_base.specs.Lists.{IsIn, Every}
 use Rattle.fore_base.specs.declared.store.Datum.{Datum}
@@ -8,9 +8,7 @@ use Rattle.ta_core.specs.Auto.{Automaton}
 use Rattle.ta_core.specs.Language.{InLanguage}
 use Rattle.ta_core.specs.declared.symbol.Slot.{Slot}
 use Rattle.ta_core.specs.declared.symbol.Slot.TheVariants.{Field, Link, Hook}
-use Rattle.ta_core.specs.declared.symbol.Symbol.{Symbol}
-use Rattle.ta_core.specs.declared.symbol.Symbol.TheVariants.{Null as NullSymbol, Uninit as UninitSymbol}
-use Rattle.ta_core.specs.declared.symbol.Symbol.TheVariants.{Dangling as DanglingSymbol, Ref, Cell as CellSymbol}
+use Rattle.ta_core.specs.declared.symbol.Symbol.TheVariants.{Cell as CellSymbol}
 use Rattle.ta_core.specs.declared.tree.Tree.{Tree, out-Tree}
 use Rattle.fa_core.specs.declared.boxes.BoxDef.{BoxDef}
 use Rattle.fa_core.specs.declared.faces.BoxFace.{BoxFace}
@@ -33,7 +31,7 @@ use Rattle.fa_unfold.specs.Slots.{joined}
 use Rattle.fa_unfold.proofs.EndStructs.{insides_of}
 use Rattle.fa_merge.specs.Reordered.{counted}
 use Rattle.fa_folding.specs.Folded.{datums_of, left_parts, node_or, parts_of, shape_of}
-use Rattle.fa_folding.proofs.FoldedForests.{one_fold}
+use Rattle.fa_folding.proofs.FoldedForests.{one_fold, symbol_datums}
 use Rattle.fa_folding.proofs.FoldedPlaces.{gained_places, grown_key, is_folded, joined_are, node_places}
 use Rattle.fa_folding.proofs.FoldedSlots.{tree_is}
 use Rattle.fa_folding.proofs.FoldedTables.{kept_there, low}
@@ -43,6 +41,7 @@ use Rattle.fa_folding.proofs.Insides.{moved_is, numbered_at}
 use Rattle.fa_folding.proofs.Numbers.{in_counted, kept_in}
 use Rattle.fa_folding.proofs.Places.{cell_is, left_places, part_places}
 use Rattle.fa_folding.proofs.Moving.{moved_auto, moved_language}
+use Rattle.fa_folding.proofs.FoldedOrder.{symbol_struct}
 
 -- nothing is taken of no fields
 left_all : (ps : List (Slot × List Tree)) → left [] ps ≡ ps
@@ -98,20 +97,6 @@ left_placed fs f (hook b i ps) = ap (λ (z : Parts). hook b i z) (left_placed fs
 
 placed_own : (f : ℕ → Target) (m : Node) → parts_of (placed f m) ≡ placed_parts f (parts_of m)
 placed_own f (node c s ds ps) = refl
-
-abbrev symbol_struct : Symbol → ℕ
-symbol_struct NullSymbol = 0
-symbol_struct UninitSymbol = 0
-symbol_struct DanglingSymbol = 0
-symbol_struct (Ref k) = 0
-symbol_struct (CellSymbol s ds ss) = s
-
-abbrev symbol_datums : Symbol → List Datum
-symbol_datums NullSymbol = []
-symbol_datums UninitSymbol = []
-symbol_datums DanglingSymbol = []
-symbol_datums (Ref k) = []
-symbol_datums (CellSymbol s ds ss) = ds
 
 placed_symbol_is : (f : ℕ → Target) (m : Node) → (ss : List Slot)
     × ((out-Tree (bare (placed f m))).symbol ≡ CellSymbol (shape_of m) (datums_of m) ss)

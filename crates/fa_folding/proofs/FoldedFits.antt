@@ -1,6 +1,6 @@
 -- A box edge that opens into the cells of a filled forest: where it fits its cell, and the slots of the forest with the
 -- edge end at cells of that forest, they fit, and give each field of each cell once.
-use Rattle.std.proofs.Common.{◌≡◌, inl, inr, ℕ, List, [], ◌∷◌, ◌++◌, map, flat_map, refl, sym, ap, subst, ◌∙◌}
+use Rattle.std.proofs.Common.{◌≡◌, inl, inr, ℕ, List, [], ◌∷◌, ◌++◌, map, flat_map, refl, sym, subst, ◌∙◌}
 use Rattle.fore_base.specs.Lists.{IsIn, Every, IsDistinct}
 use Rattle.fore_base.specs.declared.store.Value.{Value}
 use Rattle.fore_base.specs.declared.store.Value.TheVariants.{Null as NullValue, Uninit as UninitValue}
@@ -9,31 +9,28 @@ use Rattle.fore_base.proofs.ListLemmas.{every_parts, every_weaker}
 use Rattle.fa_core.specs.declared.faces.Face.{Face}
 use Rattle.fa_core.specs.declared.forest.Forest.{Forest}
 use Rattle.fa_core.specs.Boxes.{Boxes, IsBoxTable, faces_of}
-use Rattle.fa_core.specs.Choices.{all_numbers, bares, count}
+use Rattle.fa_core.specs.Choices.{all_numbers, count}
 use Rattle.fa_core.specs.Dressed.{Nodes, Seen, SeenField, SeenLink, SeenHook, SeenCell, Fact, all_refs, cells, facts}
 use Rattle.fa_core.specs.Dressed.{roots_of}
-use Rattle.fa_core.specs.Filled.{IsFilled, TreesFilled, covers, fields_of}
+use Rattle.fa_core.specs.Filled.{IsFilled, covers, fields_of}
 use Rattle.fa_core.specs.Member.{OfForest}
 use Rattle.fa_core.specs.Rearranged.{Rearranged, often}
 use Rattle.fa_core.specs.References.{AllBelow}
 use Rattle.fa_core.proofs.Counts.{often_same}
-use Rattle.fa_core.proofs.Dressing.{choice_of}
-use Rattle.fa_core.proofs.FilledCells.{cells_filled}
-use Rattle.fa_core.proofs.FilledKept.{apart_by, forest_numbers}
+use Rattle.fa_core.proofs.FilledKept.{forest_numbers}
 use Rattle.fa_core.proofs.Given.{gives_to}
-use Rattle.fa_core.proofs.Rearranging.{back, flat_mapped}
+use Rattle.fa_core.proofs.Rearranging.{back, flat_mapped, every_moved}
 use Rattle.fa_core.proofs.SeenCells.{HasStruct, NamesOne, PointsTo, SlotsFit, IsFilledCell, one_struct, cell_number}
-use Rattle.fa_core.proofs.SeenCells.{tops_structs, slots_seen}
+use Rattle.fa_core.proofs.SeenCells.{slots_seen}
 use Rattle.fa_facts.proofs.Alike.{alike}
 use Rattle.fa_facts.proofs.BoxFields.{table_gives}
 use Rattle.fa_facts.proofs.FactCounts.{given_n, owed_n}
 use Rattle.fa_facts.proofs.FullFacts.{fields_full}
 use Rattle.fa_unfold.specs.Opens.{Item, IsCell, HasSlot, items, opened, Opens}
-use Rattle.fa_unfold.proofs.OpenedFits.{Fits, FitsHere, IsSlotItem, IsThere, apart_before, cells_fit, fits_here}
+use Rattle.fa_unfold.proofs.OpenedFits.{Fits, FitsHere, IsSlotItem, apart_before, cells_fit, fits_here, filled_cells}
 use Rattle.fa_unfold.proofs.OpenedFits.{struct_kept}
 use Rattle.fa_unfold.proofs.OpenedOnce.{CellInside, given_moved, owed_moved, count_once}
 use Rattle.fa_unfold.proofs.Opening.{facts_opened, opens_facts}
-use Rattle.fa_unfold.proofs.PortTrees.{every_same}
 use Rattle.fa_unfold.proofs.UnfoldedMembers.{cell_items, cells_items}
 use Rattle.fa_folding.proofs.ClosedItems.{ItemIn, SeenIn, ValueIn, items_closed}
 
@@ -74,17 +71,9 @@ module _ (t : Boxes) (table : IsBoxTable t) (F : Forest) (filled : IsFilled t.fa
   abbrev pub face : Face
   face = record { shapes = t.face.shapes; boxes = faces_of t.defs }
 
-  filled_here : IsFilled face F
-  filled_here = let k = table.faces in
-      subst (λ (z : Face). IsFilled z F) (ap (λ bs. record { shapes = t.face.shapes; boxes = bs }) k) filled
-
   -- the cells of d
   pub cells_opened : Every (IsFilledCell face (cells d)) (cells d)
-  cells_opened =
-      let k = filled_here.trees (bares d) (choice_of t.defs F.autos d of) in
-      cells_filled face d
-      (apart_by face.boxes d (subst IsDistinct (forest_numbers (roots_of d) d) apart))
-      (subst (λ (z : List ℕ). TreesFilled face (bares d) z 0 (bares d)) (tops_structs d k.tops k.are) k.cells)
+  cells_opened = filled_cells t table F filled d of apart
 
   abbrev numbers_here : List ℕ
   numbers_here = all_numbers e
@@ -118,17 +107,17 @@ module _ (t : Boxes) (table : IsBoxTable t) (F : Forest) (filled : IsFilled t.fa
     pub fits_here_all : Every (λ c. SlotsFit face (cells e) c.shape c.slots) (cells e)
     fits_here_all =
         let a : Every (FitsHere face (cells d)) (items d) =
-        every_same (FitsHere face (cells d)) (back (cells_items d))
+        every_moved (FitsHere face (cells d)) (back (cells_items d))
         (fits_here face (cells d) (cells d) (λ n s k. k)
         (every_weaker (IsFilledCell face (cells d)) (λ c. SlotsFit face (cells d) c.shape c.slots) (cells d)
         (λ c h. h.slots) cells_opened)) in
         let b = (every_parts (FitsHere face (cells d)) o.gained o.others
-        (every_same (FitsHere face (cells d)) o.after a)).1 in
+        (every_moved (FitsHere face (cells d)) o.after a)).1 in
         let i : Every (ItemIn numbers_here) (x ∷ o.others) =
-        every_same (ItemIn numbers_here) o.before (items_closed e below) in
+        every_moved (ItemIn numbers_here) o.before (items_closed e below) in
         cells_fit face (cells e) (cells e) (λ n s k. k)
-        (every_same (Fits face (cells e)) (cells_items e)
-        (every_same (Fits face (cells e)) (back o.before) (edge, each_turned o.others i.1 b)))
+        (every_moved (Fits face (cells e)) (cells_items e)
+        (every_moved (Fits face (cells e)) (back o.before) (edge, each_turned o.others i.1 b)))
 
     -- each field of each cell is given once
     pub once_here : Every (CellInside t.defs) (cells e) → (c : SeenCell) → IsIn c (cells e)

@@ -1,18 +1,18 @@
 -- The folded forest is filled: each choice of its trees is the fold of a choice of trees before.
-use Rattle.std.proofs.Common.{◌≡◌, ◌<◌, ◌+◌, ◌⊎◌, inl, inr, ℕ, zero, suc, Bool, true, false, true≢false, cond, length}
-use Rattle.std.proofs.Common.{List, [], ◌∷◌, ◌++◌, map, refl, sym, ap, ap₂, subst, ◌∙◌, Option, Some, None, slice_get}
+use Rattle.std.proofs.Common.{◌≡◌, ◌<◌, ◌+◌, inl, inr, ℕ, zero, suc, Bool, true, false, true≢false, length}
+use Rattle.std.proofs.Common.{List, [], ◌∷◌, map, refl, sym, ap, ap₂, subst, ◌∙◌, Option, Some, slice_get}
 use Rattle.std.proofs.Common.{arith}
 use Rattle.std.proofs.lemmas.Option.{none-some, same_Some}
 use Rattle.fore_base.specs.Lists.{IsIn, Every, IsDistinct}
 use Rattle.fore_base.specs.declared.store.Datum.{Datum}
-use Rattle.fore_base.proofs.ListLemmas.{every_in}
+use Rattle.fore_base.proofs.ListLemmas.{every_in, in_from_place}
 use Rattle.ta_core.specs.Auto.{Automaton}
 use Rattle.ta_core.specs.Language.{InLanguage}
 use Rattle.ta_core.specs.declared.symbol.Slot.{Slot}
 use Rattle.ta_core.specs.declared.symbol.Symbol.{Symbol}
 use Rattle.ta_core.specs.declared.symbol.Symbol.TheVariants.{Null as NullSymbol, Uninit as UninitSymbol}
 use Rattle.ta_core.specs.declared.symbol.Symbol.TheVariants.{Dangling as DanglingSymbol, Ref, Cell as CellSymbol}
-use Rattle.ta_core.specs.declared.tree.Tree.{Tree, out-Tree}
+use Rattle.ta_core.specs.declared.tree.Tree.{Tree}
 use Rattle.fa_core.specs.declared.boxes.BoxDef.{BoxDef}
 use Rattle.fa_core.specs.declared.faces.BoxFace.{BoxFace}
 use Rattle.fa_core.specs.declared.faces.Face.{Face}
@@ -22,11 +22,11 @@ use Rattle.fa_core.specs.declared.forest.Target.TheVariants.{Null, Uninit, Dangl
 use Rattle.fa_core.specs.Boxes.{Boxes, faces_of}
 use Rattle.fa_core.specs.Choices.{all_numbers, bares, count}
 use Rattle.fa_core.specs.Dressed.{Node, Nodes, cells, roots_of}
-use Rattle.fa_core.specs.Filled.{Choice, ChoiceFilled, HasSome, IsInOrder, IsRoot, TopsAre, TreesFilled, covers, least}
+use Rattle.fa_core.specs.Filled.{Choice, ChoiceFilled, HasSome, IsRoot, TopsAre, TreesFilled, covers, least}
 use Rattle.fa_core.specs.Folding.{FoldOf, IsFoldedTree, box_slot, cell_of, gained, moved_target, number_without}
 use Rattle.fa_core.specs.Folding.{taken_at}
 use Rattle.fa_core.specs.Member.{OfForest, bare}
-use Rattle.fa_core.specs.Rearranged.{IsRising, Rearranged, chain}
+use Rattle.fa_core.specs.Rearranged.{IsRising, chain}
 use Rattle.fa_core.specs.Ways.{has}
 use Rattle.fa_core.proofs.Dressing.{bares_length, choice_length, dress_all, numbered_differ}
 use Rattle.fa_core.proofs.FilledKept.{forest_numbers}
@@ -39,9 +39,9 @@ use Rattle.fa_unfold.specs.Sites.{IsOver}
 use Rattle.fa_unfold.proofs.EndStructs.{insides_of}
 use Rattle.fa_folding.specs.Folded.{each_node, node_or}
 use Rattle.fa_merge.specs.Reordered.{counted}
-use Rattle.fa_folding.proofs.FoldedMembers.{get_in, same_many}
+use Rattle.fa_folding.proofs.FoldedMembers.{same_many}
 use Rattle.fa_folding.proofs.FoldedPlaces.{bare_got, is_folded}
-use Rattle.fa_folding.proofs.FoldedOrder.{fold_filled}
+use Rattle.fa_folding.proofs.FoldedOrder.{fold_filled, symbol_struct}
 use Rattle.fa_folding.proofs.FoldedTables.{e, kept_there, low, new_below}
 use Rattle.fa_folding.proofs.FoldedTrees.{folded_node}
 use Rattle.fa_folding.proofs.Folding.{as_many, once_here}
@@ -52,14 +52,7 @@ Place = Slot × List Tree
 
 -- A tree has one fold.
 
-abbrev symbol_struct : Symbol → ℕ
-symbol_struct NullSymbol = 0
-symbol_struct UninitSymbol = 0
-symbol_struct DanglingSymbol = 0
-symbol_struct (Ref k) = 0
-symbol_struct (CellSymbol s ds ss) = s
-
-abbrev symbol_datums : Symbol → List Datum
+abbrev pub symbol_datums : Symbol → List Datum
 symbol_datums NullSymbol = []
 symbol_datums UninitSymbol = []
 symbol_datums DanglingSymbol = []
@@ -145,13 +138,8 @@ module _ (t : Boxes) (F G : Forest) (over : IsOver t F) (n i : ℕ) (out : Optio
     where
       here : (b : Bool) → has r inner ≡ b → (v : Tree) × InLanguage a v × FoldsHere r v
       here true q =
-          let some = every_in HasSome F.autos a over.sound.full (auto_in F.autos r h) in
+          let some = every_in HasSome F.autos a over.sound.full (in_from_place F.autos r a h) in
           (some.0, some.1, λ k. absurd (k (has_in r inner q)))
-        where
-          auto_in : (autos : List Automaton) (r : ℕ) → slice_get autos r ≡ Some a → IsIn a autos
-          auto_in [] r e = absurd (none-some a e)
-          auto_in (b ∷ autos) zero e = inl (sym (same_Some b a e))
-          auto_in (b ∷ autos) (suc r) e = inr (auto_in autos r e)
       here false q =
           let k : IsIn r inner → ⊥ = λ j. true≢false (sym (in_has r inner j) ∙ q) in
           let v = x.autos r a h k in
@@ -200,7 +188,7 @@ module _ (t : Boxes) (F G : Forest) (over : IsOver t F) (n i : ℕ) (out : Optio
           (kept_there t F over n i x.def x.there out g x.part x.within d of) us
           (choice_length G.autos us c ∙ same_many t F G over n i out g x d of)
           (λ j r u h k.
-          (let m = get_in (kept_there t F over n i x.def x.there out g x.part x.within d of) j r h in
+          (let m = in_from_place (kept_there t F over n i x.def x.there out g x.part x.within d of) j r h in
           let o = in_kept inner (counted 0 (count d)) r m in
           let num : f r ≡ j = kept_number inner
           (once_here t.defs bs F x.def i out g x.part d of

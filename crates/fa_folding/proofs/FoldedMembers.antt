@@ -1,20 +1,15 @@
 -- Each dressed forest is, with its part put inside a box edge, one of the folded forest; so each member is one of it.
-use Rattle.std.proofs.Common.{◌≡◌, ◌<◌, ◌≤◌, ◌+◌, ◌-◌, inl, inr, ℕ, zero, suc, Bool, true, false, cond, nat_eq}
-use Rattle.std.proofs.Common.{if◌then◌else◌, length, List, [], ◌∷◌, ◌++◌, map, flat_map, refl, sym, ap, ap₂, subst, ◌∙◌}
-use Rattle.std.proofs.Common.{Option, Some, None, slice_get, arith}
-use Rattle.std.proofs.lemmas.Option.{none-some, same_Some}
-use Rattle.fore_base.specs.Lists.{IsIn, Every, IsDistinct}
+use Rattle.std.proofs.Common.{◌≡◌, ◌<◌, ◌+◌, ◌-◌, inl, inr, ℕ, suc, length-append}
+use Rattle.std.proofs.Common.{length, List, [], ◌∷◌, ◌++◌, map, refl, sym, ap, ap₂, subst, ◌∙◌}
+use Rattle.std.proofs.Common.{Option, Some, slice_get, arith}
+use Rattle.std.proofs.lemmas.Option.{same_Some}
+use Rattle.fore_base.specs.Lists.{IsIn, IsDistinct}
 use Rattle.fore_base.specs.declared.shape.Shape.{Shape}
-use Rattle.fore_base.specs.declared.store.Datum.{Datum}
 use Rattle.fore_base.specs.declared.store.Store.{Store}
 use Rattle.fore_base.specs.declared.store.Value.{Value}
+use Rattle.fore_base.proofs.ListLemmas.{in_from_place}
 use Rattle.ta_core.specs.Auto.{Automaton}
 use Rattle.ta_core.specs.Language.{InLanguage}
-use Rattle.ta_core.specs.declared.symbol.Slot.{Slot}
-use Rattle.ta_core.specs.declared.symbol.Slot.TheVariants.{Field, Link, Hook}
-use Rattle.ta_core.specs.declared.symbol.Symbol.{Symbol}
-use Rattle.ta_core.specs.declared.symbol.Symbol.TheVariants.{Cell as CellSymbol}
-use Rattle.ta_core.specs.declared.tree.Tree.{Tree, out-Tree}
 use Rattle.fa_core.specs.declared.boxes.BoxDef.{BoxDef}
 use Rattle.fa_core.specs.declared.faces.BoxFace.{BoxFace}
 use Rattle.fa_core.specs.declared.forest.Forest.{Forest}
@@ -22,36 +17,30 @@ use Rattle.fa_core.specs.declared.forest.Target.{Target}
 use Rattle.fa_core.specs.declared.forest.Target.TheVariants.{Null, Uninit, Dangling, At}
 use Rattle.fa_core.specs.Boxes.{Boxes, faces_of}
 use Rattle.fa_core.specs.Choices.{bares, count}
-use Rattle.fa_core.specs.Dressed.{Node, Parts, Nodes, node, no_parts, field, link, hook, leaf, no_nodes, more, refs}
+use Rattle.fa_core.specs.Dressed.{Node, Nodes, refs}
 use Rattle.fa_core.specs.Dressed.{roots_of, value_in}
-use Rattle.fa_core.specs.Filled.{Choice, IsInOrder}
-use Rattle.fa_core.specs.Folding.{FoldOf, IsFoldedAuto, IsFoldedTree, box_slot, cell_of, gained, left, moved_places}
-use Rattle.fa_core.specs.Folding.{moved_target, number_without, taken_at, top_places}
-use Rattle.fa_core.specs.Member.{InsidesOf, OfForest, Stands, TreesOf, bare, bare_end, slots_of}
-use Rattle.fa_core.specs.Placed.{placed_parts}
-use Rattle.fa_core.specs.Rearranged.{Rearranged, empty, keep, swap, chain}
-use Rattle.fa_core.proofs.Dressing.{bares_length, cell_top, choice_of}
-use Rattle.fa_core.proofs.Rearranging.{back}
-use Rattle.fa_unfold.specs.Opens.{Opens}
-use Rattle.fa_unfold.specs.Parts.{Part, FieldPart, LinkPart, HookPart, listed}
+use Rattle.fa_core.specs.Folding.{FoldOf}
+use Rattle.fa_core.specs.Folding.{moved_target, number_without}
+use Rattle.fa_core.specs.Member.{InsidesOf, OfForest, Stands, TreesOf, bare}
+use Rattle.fa_core.specs.Rearranged.{Rearranged}
+use Rattle.fa_core.proofs.Dressing.{choice_of}
+use Rattle.fa_core.proofs.Rearranging.{long_same}
 use Rattle.fa_unfold.specs.Sites.{IsOver}
-use Rattle.fa_unfold.specs.Slots.{joined}
-use Rattle.fa_unfold.specs.inner.Trees.{joined_parts, part_key, unlisted}
-use Rattle.fa_unfold.proofs.Joins.{joined_same}
 use Rattle.fa_unfold.proofs.Opening.{opens_facts}
-use Rattle.fa_folding.specs.Folded.{datums_of, each_node, left_parts, node_or, parts_of, shape_of}
+use Rattle.fa_unfold.proofs.UnfoldedMembers.{stands_again}
+use Rattle.fa_folding.specs.Folded.{each_node, node_or}
 use Rattle.fa_folding.specs.Folds.{FoldsInto, IsFolded}
-use Rattle.fa_folding.proofs.FoldedSlots.{fold_in_order, folded_slots, gained_slots, node_slots, slots_after}
 use Rattle.fa_split.proofs.SplitCells.{refers_well}
 use Rattle.fa_folding.proofs.FoldedPlaces.{is_folded, kept_below}
 use Rattle.fa_folding.proofs.FoldedTables.{e, edge, kept_there, low, node_inside, opens}
-use Rattle.fa_folding.proofs.FoldedTrees.{edge_parts, folded_node, folded_parts, gained_parts, moves, new}
+use Rattle.fa_folding.proofs.FoldedTrees.{folded_node, moves}
 use Rattle.fa_folding.proofs.Folding.{as_many, low_here, once_here}
-use Rattle.fa_folding.proofs.Insides.{numbered_at, places_moved, tree_there}
+use Rattle.fa_folding.proofs.Insides.{tree_there}
 use Rattle.fa_merge.specs.Reordered.{counted}
-use Rattle.fa_folding.proofs.Numbers.{all_roots, counted_above, in_kept, kept_number}
-use Rattle.fa_folding.proofs.Places.{cell_is, left_places, part_places, slots_are, top_places_are}
+use Rattle.fa_folding.proofs.Numbers.{all_roots, in_kept, kept_number}
 use Rattle.fa_folding.proofs.Reached.{root_there}
+use Rattle.fa_merge.proofs.OtherOrders.{counted_length}
+use Rattle.fa_merge.proofs.Signatures.{one_more}
 
 -- the trees are in the components in their places
 trees_by_place : (T : List BoxDef) (autos : List Automaton) (m : ℕ → Node) (rs : List ℕ) → length autos ≡ length rs
@@ -66,30 +55,6 @@ trees_by_place T (a ∷ autos) m (r ∷ rs) l h =
       w.3,
       trees_by_place T autos m rs (omega (arith, l)) (λ j k q. h (suc j) k q),
     )
-
-pub moved_long : {X : Type 0} {xs ys : List X} → Rearranged xs ys → length xs ≡ length ys
-moved_long empty = refl
-moved_long (keep x r) = ap (λ (n : ℕ). suc n) (moved_long r)
-moved_long (swap x y xs) = refl
-moved_long (chain a b) = moved_long a ∙ moved_long b
-
-pub both_long : {X : Type 0} (xs ys : List X) → length (xs ++ ys) ≡ length xs + length ys
-both_long [] ys = omega arith
-both_long (x ∷ xs) ys = let l = both_long xs ys in omega (arith, l)
-
-pub counted_long : (k n : ℕ) → length (counted k n) ≡ n
-counted_long k zero = refl
-counted_long k (suc n) = ap (λ (z : ℕ). suc z) (counted_long (suc k) n)
-
-pub get_in : (rs : List ℕ) (j r : ℕ) → slice_get rs j ≡ Some r → IsIn r rs
-get_in [] j r h = absurd (none-some r h)
-get_in (k ∷ rs) zero r h = inl (sym (same_Some k r h))
-get_in (k ∷ rs) (suc j) r h = inr (get_in rs j r h)
-
-some_auto : (autos : List Automaton) (r : ℕ) → r < length autos → (a : Automaton) × (slice_get autos r ≡ Some a)
-some_auto [] r l = absurd (omega (arith, l))
-some_auto (a ∷ autos) zero l = (a, refl)
-some_auto (a ∷ autos) (suc r) l = some_auto autos r (omega (arith, l))
 
 module _ (t : Boxes) (F G : Forest) (over : IsOver t F) (n i : ℕ) (out : Option ℕ) (g : BoxDef)
     (x : FoldOf (faces_of t.defs) t.defs F G n i out g) (d : Nodes) (of : OfForest t.defs F d) where
@@ -116,9 +81,9 @@ module _ (t : Boxes) (F G : Forest) (over : IsOver t F) (n i : ℕ) (out : Optio
 
   kept_many : length kept + length x.part.inner ≡ length F.autos
   kept_many =
-      let a = moved_long (gone_and_kept_all) in
-      let b = both_long x.part.inner kept in
-      let c = counted_long 0 (count d) in
+      let a = long_same (gone_and_kept_all) in
+      let b = length-append x.part.inner kept in
+      let c = counted_length 0 (count d) in
       let e = as_many t.defs F.autos d of in
       omega (arith, a, b, c, e)
     where
@@ -131,9 +96,9 @@ module _ (t : Boxes) (F G : Forest) (over : IsOver t F) (n i : ℕ) (out : Optio
   component_there : (j r : ℕ) → slice_get kept j ≡ Some r → (c : Automaton) × (slice_get G.autos j ≡ Some c)
       × InLanguage c (bare (m r)) × InsidesOf t.defs (m r)
   component_there j r h =
-      let w = get_in kept j r h in
+      let w = in_from_place kept j r h in
       let z = in_kept x.part.inner (counted 0 (count d)) r w in
-      let a = some_auto F.autos r (let l = kept_below t F over n i x.def x.there out g x.part x.within d of r w in
+      let a = one_more F.autos r (let l = kept_below t F over n i x.def x.there out g x.part x.within d of r w in
       let q = as_many t.defs F.autos d of in
       subst (λ (z : ℕ). r < z) q l) in
       let v = x.autos r a.0 a.1 z.0 in
@@ -198,12 +163,5 @@ pub members_kept : (hs : List Shape) (T : List BoxDef) (F G : Forest) (s : Store
 members_kept hs T F G s u h =
     let w = u h.0 h.1.of in (
       w.0,
-      record {
-        proper = h.1.proper;
-        fields = h.1.fields;
-        of = w.1;
-        same_facts = chain (opens_facts w.2.edge w.0 h.0 w.2.opens) h.1.same_facts;
-        vars = h.1.vars ∙ w.2.vars;
-        data_vars = h.1.data_vars ∙ w.2.data_vars;
-      },
+      stands_again hs T F G h.0 w.0 s h.1 w.1 (opens_facts w.2.edge w.0 h.0 w.2.opens) w.2.vars w.2.data_vars,
     )

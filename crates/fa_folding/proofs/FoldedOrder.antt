@@ -1,15 +1,13 @@
 -- The fold of a dressed forest over a table: its edge fits, and its slots stand in order.
 use Rattle.std.proofs.Common.{filter, ◌≡◌, ◌≢◌, ◌<◌, inl, inr, ℕ, zero, suc, Bool, true, false, cond, nat_eq, not}
-use Rattle.std.proofs.Common.{if◌then◌else◌, length, List, [], ◌∷◌, ◌++◌, map, flat_map, refl, sym, ap, subst, ◌∙◌}
+use Rattle.std.proofs.Common.{if◌then◌else◌, List, [], ◌∷◌, map, flat_map, refl, sym, ap, subst, ◌∙◌}
 use Rattle.std.proofs.Common.{Option, Some, None, slice_get, arith}
-use Rattle.std.proofs.lemmas.Option.{none-some, same_Some}
-use Rattle.fore_base.specs.Lists.{IsIn, Every, IsDistinct}
+use Rattle.std.proofs.lemmas.Option.{none-some, same_Some, slice_get_within}
+use Rattle.fore_base.specs.Lists.{IsIn, IsDistinct}
 use Rattle.fore_base.specs.Shapes.{targets_of}
 use Rattle.fore_base.specs.declared.store.Datum.{Datum}
 use Rattle.fore_base.specs.declared.store.Value.{Value}
-use Rattle.fore_base.specs.declared.store.Value.TheVariants.{Cell}
 use Rattle.fore_base.proofs.ListLemmas.{every_weaker, in_every, every_in, in_left, in_right}
-use Rattle.ta_core.specs.Auto.{Automaton}
 use Rattle.ta_core.specs.declared.auto.Rule.{Rule}
 use Rattle.ta_core.specs.declared.symbol.Slot.{Slot}
 use Rattle.ta_core.specs.declared.symbol.Slot.TheVariants.{Field, Link, Hook}
@@ -21,12 +19,10 @@ use Rattle.fa_core.specs.declared.boxes.BoxDef.{BoxDef}
 use Rattle.fa_core.specs.declared.faces.BoxFace.{BoxFace}
 use Rattle.fa_core.specs.declared.faces.Face.{Face}
 use Rattle.fa_core.specs.declared.forest.Forest.{Forest}
-use Rattle.fa_core.specs.declared.forest.Target.{Target}
-use Rattle.fa_core.specs.declared.forest.Target.TheVariants.{At}
 use Rattle.fa_core.specs.Boxes.{Boxes, faces_of}
 use Rattle.fa_core.specs.Choices.{all_numbers, bares, count, numbers}
-use Rattle.fa_core.specs.Dressed.{Node, Parts, End, Nodes, node, no_parts, field, link, hook, under, leaf, no_nodes}
-use Rattle.fa_core.specs.Dressed.{more, SeenCell, seen, SeenLink, SeenHook, cells, forest_cells, number, refs, roots_of}
+use Rattle.fa_core.specs.Dressed.{Node, Parts, Nodes, node, no_parts, field, link, hook, no_nodes}
+use Rattle.fa_core.specs.Dressed.{more, SeenCell, seen, cells, forest_cells, number, refs, roots_of}
 use Rattle.fa_core.specs.Dressed.{tree_cells}
 use Rattle.fa_core.specs.Filled.{HasField, IsInOrder, TreesFilled, covers, face_of, fields_in, gives_in_of, least}
 use Rattle.fa_core.specs.Folding.{ArePortRoots, IsPart, IsPartWithin, IsPortRoot, Ports, PortsAre, is_one_of, taken_at}
@@ -39,18 +35,17 @@ use Rattle.fa_core.proofs.FilledCells.{trees_filled}
 use Rattle.fa_core.proofs.FilledKept.{apart_by, forest_numbers}
 use Rattle.fa_core.proofs.Given.{gives_to}
 use Rattle.fa_core.proofs.Permuted.{distinct_moved, distinct_parts}
-use Rattle.fa_core.proofs.SeenCells.{HasStruct, IsFilledCell, NamesOne, SlotsFit, cell_number, node_structs, one_struct}
-use Rattle.fa_core.proofs.SeenCells.{slots_seen, slots_seen_are, struct_left, struct_right}
+use Rattle.fa_core.proofs.SeenCells.{HasStruct, IsFilledCell, SlotsFit, cell_number, node_structs, one_struct}
+use Rattle.fa_core.proofs.SeenCells.{slots_seen, slots_seen_are, struct_right}
 use Rattle.fa_split.proofs.TopRules.{top_is, tree_by_top}
-use Rattle.fa_unfold.specs.Opens.{Item, HasSlot, Opens}
+use Rattle.fa_unfold.specs.Opens.{Item, Opens}
 use Rattle.fa_unfold.specs.Sites.{IsOver}
-use Rattle.fa_unfold.specs.inner.Trees.{joined_parts}
 use Rattle.fa_unfold.proofs.OpenedFits.{Fits, IsSlotItem, struct_kept}
-use Rattle.fa_unfold.proofs.SlotsInOrder.{AllCover, CellOrdered, KeysApart, Ordered, PartsOrdered, TopsHave}
+use Rattle.fa_unfold.proofs.SlotsInOrder.{AllCover, CellOrdered, Ordered, PartsOrdered, TopsHave}
 use Rattle.fa_unfold.proofs.SlotsInOrder.{cells_ordered, cover_listed, fields_apart, joined_cover, joined_ordered}
 use Rattle.fa_unfold.proofs.SlotsInOrder.{ordered_cells, placed_ordered}
 use Rattle.fa_unfold.proofs.TableBoxes.{IsBoxOf, box_of_table}
-use Rattle.fa_folding.specs.Folded.{datums_of, each_node, left_parts, node_or, parts_of, root_cell, shape_of}
+use Rattle.fa_folding.specs.Folded.{datums_of, each_node, left_parts, node_or, parts_of, shape_of}
 use Rattle.fa_folding.proofs.FoldedFits.{apart_here, cells_opened, fits_here_all, once_here, struct_back}
 use Rattle.fa_folding.proofs.FoldedTables.{e, edge, insides_folded, is_slot, kept_there, low, low_folded, opens}
 use Rattle.fa_folding.proofs.FoldedTrees.{edge_item, edge_parts, folded_node, folded_parts, gained_parts, new}
@@ -58,8 +53,9 @@ use Rattle.fa_folding.proofs.Folding.{as_many, port_kept}
 use Rattle.fa_folding.proofs.Insides.{inside_is, numbered_at, tree_there}
 use Rattle.fa_merge.specs.Reordered.{counted}
 use Rattle.fa_folding.proofs.Numbers.{counted_above, in_kept}
+use Rattle.fa_folding.proofs.Lists.{every_filter}
 
-abbrev symbol_struct : Symbol → ℕ
+abbrev pub symbol_struct : Symbol → ℕ
 symbol_struct NullSymbol = 0
 symbol_struct UninitSymbol = 0
 symbol_struct DanglingSymbol = 0
@@ -69,11 +65,6 @@ symbol_struct (CellSymbol s ds ss) = s
 node_shape : (m : Node) (s : ℕ) (ds : List Datum) (ss : List Slot) → (out-Tree (bare m)).symbol ≡ CellSymbol s ds ss
     → shape_of m ≡ s
 node_shape (node c s ds ps) u es ss h = ap symbol_struct (sym (cell_top c s ds ps) ∙ h)
-
-pub got_below : {X : Type 0} (xs : List X) (r : ℕ) (x : X) → slice_get xs r ≡ Some x → r < length xs
-got_below [] r x e = absurd (none-some x e)
-got_below (y ∷ xs) zero x e = omega arith
-got_below (y ∷ xs) (suc r) x e = let l = got_below xs r x e in omega (arith, l)
 
 pub face_there : (T : List BoxDef) (n : ℕ) (def : BoxDef) → slice_get T n ≡ Some def
     → face_of (faces_of T) n ≡ Some def.face
@@ -132,14 +123,6 @@ module _ {X : Type 0} (key : X → ℕ) (q : X → Bool) where
       here true a c = a
       here false a c = c
 
-  every_filter : (P : X → Type 0) (xs : List X) → Every P xs → Every P (filter q xs)
-  every_filter P [] h = tt
-  every_filter P (x ∷ xs) h = here (q x) (every_filter P xs h.1)
-    where
-      here : (b : Bool) → Every P (filter q xs) → Every P (cond b (x ∷ filter q xs) (filter q xs))
-      here true a = (h.0, a)
-      here false a = a
-
 module _ (fs : List ℕ) where
   abbrev pub is_other : Slot → Bool
   is_other s = not (is_one_of fs s)
@@ -171,7 +154,7 @@ module _ (fs : List ℕ) where
     pub left_ordered : (ps : Parts) → Ordered bs ps → Ordered bs (left_parts fs ps)
     left_ordered ps h = (
       subst (IsInOrder bs) (sym (slots_left ps)) (
-        every_filter (λ s. least (covers bs s)) is_other (λ s. HasField (covers bs s)) (slots_of ps) h.0.0,
+        every_filter is_other (λ s. HasField (covers bs s)) (slots_of ps) h.0.0,
         filter_rises (λ s. least (covers bs s)) is_other (slots_of ps) h.0.1,
       ),
       below_left_parts ps h.1,
@@ -244,7 +227,7 @@ module _ (t : Boxes) (F : Forest) (over : IsOver t F) (n i : ℕ) (def : BoxDef)
 
   port_below : (r s : ℕ) (fs : List ℕ) → IsPortRoot F.autos r s fs → r < count d
   port_below r s fs h =
-      let l = got_below F.autos r h.auto h.there in
+      let l = slice_get_within F.autos r h.auto h.there in
       subst (λ (z : ℕ). r < z) (sym (as_many t.defs F.autos d of)) l
 
   -- where the cell of root r has struct s in d, it has it in the fold if it is kept

@@ -1,58 +1,42 @@
 -- The trees after a fold, with their slots: what a dressed forest becomes is what its trees become.
-use Rattle.std.proofs.Common.{◌≡◌, ◌<◌, ◌≤◌, ◌+◌, ◌-◌, inl, inr, ℕ, zero, suc, nat_le, Bool, true, false, cond, nat_eq}
-use Rattle.std.proofs.Common.{if◌then◌else◌, length, List, [], ◌∷◌, ◌++◌, map, flat_map, refl, sym, ap, ap₂, subst, ◌∙◌}
+use Rattle.std.proofs.Common.{◌≡◌, ◌<◌, ◌+◌, ◌-◌, ℕ, zero, suc, nat_le, Bool, true, false, cond, nat_eq}
+use Rattle.std.proofs.Common.{if◌then◌else◌, List, [], ◌∷◌, ◌++◌, map, refl, sym, ap, ap₂, subst, ◌∙◌}
 use Rattle.std.proofs.Common.{Option, Some, None, slice_get, arith}
-use Rattle.std.proofs.lemmas.Option.{none-some, same_Some}
-use Rattle.fore_base.specs.Lists.{IsIn, Every, IsDistinct}
-use Rattle.fore_base.specs.declared.shape.Shape.{Shape}
-use Rattle.fore_base.specs.declared.store.Datum.{Datum}
-use Rattle.fore_base.specs.declared.store.Store.{Store}
-use Rattle.fore_base.specs.declared.store.Value.{Value}
-use Rattle.ta_core.specs.Auto.{Automaton}
-use Rattle.ta_core.specs.Language.{InLanguage}
+use Rattle.fore_base.specs.Lists.{IsIn}
 use Rattle.ta_core.specs.declared.symbol.Slot.{Slot}
 use Rattle.ta_core.specs.declared.symbol.Slot.TheVariants.{Field, Link, Hook}
-use Rattle.ta_core.specs.declared.symbol.Symbol.{Symbol}
 use Rattle.ta_core.specs.declared.symbol.Symbol.TheVariants.{Cell as CellSymbol}
 use Rattle.ta_core.specs.declared.tree.Tree.{Tree, out-Tree}
 use Rattle.fa_core.specs.declared.boxes.BoxDef.{BoxDef}
 use Rattle.fa_core.specs.declared.faces.BoxFace.{BoxFace}
 use Rattle.fa_core.specs.declared.forest.Forest.{Forest}
-use Rattle.fa_core.specs.declared.forest.Target.{Target}
-use Rattle.fa_core.specs.declared.forest.Target.TheVariants.{Null, Uninit, Dangling, At}
 use Rattle.fa_core.specs.Boxes.{Boxes, faces_of}
 use Rattle.fa_core.specs.Choices.{bares, count}
-use Rattle.fa_core.specs.Dressed.{Node, Parts, Nodes, node, no_parts, field, link, hook, leaf, no_nodes, more, refs}
-use Rattle.fa_core.specs.Dressed.{roots_of, value_in}
-use Rattle.fa_core.specs.Filled.{Choice, IsInOrder}
+use Rattle.fa_core.specs.Dressed.{Node, Parts, Nodes, node, no_parts, field, link, hook, no_nodes, more, refs}
+use Rattle.fa_core.specs.Filled.{IsInOrder}
 use Rattle.fa_core.specs.Folding.{IsPart, IsPartWithin}
-use Rattle.fa_core.specs.Folding.{IsFoldedAuto, IsFoldedTree, box_slot, cell_of, gained, left, moved_places}
-use Rattle.fa_core.specs.Folding.{moved_target, number_without, taken_at, top_places}
-use Rattle.fa_core.specs.Member.{InsidesOf, OfForest, Stands, TreesOf, bare, bare_end, slots_of}
+use Rattle.fa_core.specs.Folding.{IsFoldedTree, box_slot, gained, left, moved_places}
+use Rattle.fa_core.specs.Folding.{number_without, taken_at, top_places}
+use Rattle.fa_core.specs.Member.{OfForest, bare, bare_end, slots_of}
 use Rattle.fa_core.specs.Placed.{placed_parts}
-use Rattle.fa_core.specs.Rearranged.{Rearranged, empty, keep, swap, chain}
-use Rattle.fa_core.proofs.Dressing.{bares_length, cell_top, choice_of}
-use Rattle.fa_core.proofs.Rearranging.{back}
-use Rattle.fa_unfold.specs.Opens.{Opens}
+use Rattle.fa_core.specs.Rearranged.{Rearranged}
+use Rattle.fa_core.proofs.Dressing.{cell_top, choice_of}
+use Rattle.fa_core.proofs.Rearranging.{mapped}
+use Rattle.fa_core.proofs.WaysOf.{map-append}
 use Rattle.fa_unfold.specs.Parts.{Part, FieldPart, LinkPart, HookPart, listed}
 use Rattle.fa_unfold.specs.Sites.{IsOver}
 use Rattle.fa_unfold.specs.Slots.{joined, put_in, slot_key}
 use Rattle.fa_unfold.specs.inner.Trees.{joined_parts, part_key, unlisted}
 use Rattle.fa_unfold.proofs.Joins.{joined_same}
-use Rattle.fa_unfold.proofs.Opening.{opens_facts}
-use Rattle.fa_folding.specs.Folded.{datums_of, each_node, left_parts, node_or, parts_of, shape_of}
-use Rattle.fa_folding.specs.Folds.{FoldsInto, IsFolded}
+use Rattle.fa_folding.specs.Folded.{datums_of, left_parts, node_or, parts_of, shape_of}
 use Rattle.fa_folding.proofs.FoldedSlots.{joined_mapped, fold_in_order, folded_slots, gained_slots, node_slots}
 use Rattle.fa_folding.proofs.FoldedSlots.{slots_after}
-use Rattle.fa_split.proofs.SplitCells.{refers_well}
-use Rattle.fa_folding.proofs.FoldedTables.{e, edge, kept_there, low, node_inside, opens}
-use Rattle.fa_folding.proofs.FoldedTrees.{edge_parts, folded_node, folded_parts, gained_parts, moves, new}
-use Rattle.fa_folding.proofs.Folding.{as_many, low_here, once_here}
-use Rattle.fa_folding.proofs.Insides.{numbered_at, places_moved, tree_there}
+use Rattle.fa_folding.proofs.FoldedTables.{e, edge, kept_there, low}
+use Rattle.fa_folding.proofs.FoldedTrees.{edge_parts, folded_node, folded_parts, gained_parts}
+use Rattle.fa_folding.proofs.Insides.{numbered_at, places_moved}
 use Rattle.fa_merge.specs.Reordered.{counted}
-use Rattle.fa_folding.proofs.Numbers.{all_roots, counted_above, in_kept, kept_number}
+use Rattle.fa_folding.proofs.Numbers.{counted_above, in_kept}
 use Rattle.fa_folding.proofs.Places.{cell_is, left_places, part_places, slots_are, top_places_are}
-use Rattle.fa_folding.proofs.Reached.{root_there}
 
 -- Slots with their children, put together.
 
@@ -75,24 +59,14 @@ places_listed (field f e ps) = ap (λ (z : List (Slot × List Tree)). (Field f, 
 places_listed (link b k e ps) = ap (λ (z : List (Slot × List Tree)). (Link b, bare_end e ∷ []) ∷ z) (places_listed ps)
 places_listed (hook b k ps) = ap (λ (z : List (Slot × List Tree)). (Hook b, []) ∷ z) (places_listed ps)
 
-map_moved : {X Y : Type 0} (h : X → Y) {xs ys : List X} → Rearranged xs ys → Rearranged (map h xs) (map h ys)
-map_moved h empty = empty
-map_moved h (keep x r) = keep (h x) (map_moved h r)
-map_moved h (swap x y xs) = swap (h x) (h y) (map h xs)
-map_moved h (chain a b) = chain (map_moved h a) (map_moved h b)
-
-map_both : {X Y : Type 0} (h : X → Y) (xs ys : List X) → map h (xs ++ ys) ≡ map h xs ++ map h ys
-map_both h [] ys = refl
-map_both {X} {Y} h (x ∷ xs) ys = ap (λ (z : List Y). h x ∷ z) (map_both h xs ys)
-
 joined_places : (bs : List BoxFace) (os qs : Parts)
     → Rearranged (part_places (joined_parts bs os qs)) (part_places qs ++ part_places os)
 joined_places bs os qs =
-    let r = map_moved place_of (joined_same (part_key bs) (listed os) (listed qs)) in
+    let r = mapped place_of (joined_same (part_key bs) (listed os) (listed qs)) in
     subst (λ (z : List (Slot × List Tree)). Rearranged z (part_places qs ++ part_places os))
     (sym (places_unlisted (joined (part_key bs) (listed os) (listed qs))))
     (subst (λ (z : List (Slot × List Tree)). Rearranged (map place_of (joined (part_key bs) (listed os) (listed qs))) z)
-    (map_both place_of (listed qs) (listed os)
+    (map-append place_of (listed qs) (listed os)
     ∙ ap₂ (λ (x y : List (Slot × List Tree)). x ++ y) (places_listed qs) (places_listed os)) r)
 
 pub bare_got : (d : Nodes) (r : ℕ) → r < count d → slice_get (bares d) r ≡ Some (bare (node_or d r))

@@ -1,9 +1,8 @@
 -- Each component of a fold can be made.
-use Rattle.std.proofs.Common.{◌≡◌, ◌≢◌, ◌<◌, inl, ℕ, zero, suc, Bool, true, false, nat_eq, if◌then◌else◌, length, List}
+use Rattle.std.proofs.Common.{◌≡◌, ◌≢◌, ◌<◌, ℕ, suc, length, List}
 use Rattle.std.proofs.Common.{[], ◌∷◌, ◌++◌}
-use Rattle.std.proofs.Common.{refl, sym, ap, subst, ◌∙◌, Option, Some, slice_get}
-use Rattle.std.proofs.lemmas.Bool.{eqb-true}
-use Rattle.std.proofs.lemmas.Option.{none-some, same_Some}
+use Rattle.std.proofs.Common.{refl, sym, subst, ◌∙◌, Option, Some, slice_get}
+use Rattle.std.proofs.lemmas.Option.{same_Some}
 use Rattle.fore_base.specs.Lists.{IsIn, Paired}
 use Rattle.ta_core.specs.Auto.{Automaton, IsRanked}
 use Rattle.ta_core.specs.Single.{HasOneTop}
@@ -17,14 +16,14 @@ use Rattle.fa_sound.proofs.ComponentLemmas.{component_got}
 use Rattle.fa_merge.specs.Reordered.{component_at, counted, place_of, renumber, reordered}
 use Rattle.fa_unfold.specs.Sites.{IsOver}
 use Rattle.fa_folding.specs.Gaining.{edge_place, edge_rules, input_auto, output_auto}
-use Rattle.fa_folding.specs.Made.{AreFoldable, IsFoldable, folded_component, kept_first, kept_of, new_output}
-use Rattle.fa_folding.specs.Made.{other_auto}
-use Rattle.fa_folding.proofs.FoldMade.{edge_above, edge_only, edge_right, edge_runs, input_port, one_here, one_moved}
-use Rattle.fa_folding.proofs.FoldMade.{got_mapped, ranked_here, taken_port, top_here}
-use Rattle.fa_folding.proofs.FoldWhole.{got_left, kept_here, same_numbers}
+use Rattle.fa_folding.specs.Made.{AreFoldable, IsFoldable, kept_first, kept_of, new_output}
+use Rattle.fa_folding.proofs.FoldMade.{edge_above, edge_only, edge_right, edge_runs}
+use Rattle.fa_folding.proofs.FoldWhole.{got_left, kept_here, kept_ranked, kept_one, kept_top, input_here}
 use Rattle.fa_folding.proofs.GainedTrees.{gained_ranked}
 use Rattle.fa_folding.proofs.Moving.{moved_auto}
 use Rattle.fa_folding.proofs.SlotRuns.{Grown, SlotRuns}
+use Rattle.fa_folding.proofs.FoldWhole.{taken_here, folded_has}
+use Rattle.fa_merge.proofs.OtherOrders.{get_mapped}
 
 all_foldable : (bs : List BoxFace) (ps : List (ℕ × List ℕ)) (n i : ℕ) (out : Option ℕ) (rs : List ℕ)
     (autos : List Automaton)
@@ -64,20 +63,16 @@ module _ (t : Boxes) (F : Forest) (over : IsOver t F) (n i : ℕ) (def : BoxDef)
     fs = taken_at p.ports r
 
     ranked : IsRanked b
-    ranked = ranked_here t F over n i def there out g p fit h (same_numbers t F over n i def there out g p fit) r a at
-        low_r own
+    ranked = kept_ranked t F over n i def there out g p fit r a at low_r own
 
     one_port : (shape : ℕ) (own_fields : List ℕ) → IsPortRoot F.autos r shape own_fields → HasOneTop b
-    one_port shape own_fields port = one_moved h a (one_here t F over n i def there out g p fit h
-        (same_numbers t F over n i def there out g p fit) r a at low_r own shape own_fields port)
+    one_port = kept_one t F over n i def there out g p fit r a at low_r own
 
     input_ranked : (shape : ℕ) (own_fields : List ℕ) → IsPortRoot F.autos r shape own_fields
         → IsRanked (input_auto bs fs n o b)
     input_ranked shape own_fields port =
         gained_ranked bs b ranked (one_port shape own_fields port) shape port.datums port.slots
-        (top_here t F over n i def there out g p fit h
-        (same_numbers t F over n i def there out g p fit) r a at low_r own
-        shape own_fields port) fs
+        (kept_top t F over n i def there out g p fit r a at low_r own shape own_fields port) fs
         (edge_rules b.states o) (edge_place n b.states o ∷ []) (box_slot (λ k. k) n o ∷ []) (edge_above b ranked n o)
         (edge_right b ranked n o) (edge_runs b ranked n o) (edge_only b ranked n o)
 
@@ -85,42 +80,24 @@ module _ (t : Boxes) (F : Forest) (over : IsOver t F) (n i : ℕ) (def : BoxDef)
         → IsRanked (output_auto bs fs b)
     output_ranked shape own_fields port =
         gained_ranked bs b ranked (one_port shape own_fields port) shape port.datums port.slots
-        (top_here t F over n i def there out g p fit h
-        (same_numbers t F over n i def there out g p fit) r a at low_r own
-        shape own_fields port) fs [] [] [] (λ x j. absurd j) tt tt none_only
+        (kept_top t F over n i def there out g p fit r a at low_r own shape own_fields port) fs [] [] []
+        (λ x j. absurd j) tt tt none_only
       where
         none_only : (vs : List Grown) → Paired (SlotRuns (b.rules ++ [])) [] vs → vs ≡ []
         none_only [] k = refl
         none_only (v ∷ vs) k = absurd k
 
-    port_of : (x : ℕ) (gs : List ℕ) → fs ≡ x ∷ gs → (s : ℕ) × (own_fields : List ℕ) × IsPortRoot F.autos r s own_fields
-    port_of x gs e = taken_port F.autos p.ports p.shapes r x p.roots (subst (IsIn x) (sym e) (inl refl))
-
-    input_of : nat_eq i r ≡ true → (s : ℕ) × (own_fields : List ℕ) × IsPortRoot F.autos r s own_fields
-    input_of e =
-        let k = input_port bs def i out p.ports p.shapes F.autos p.are_ports p.roots in
-        (k.0, k.1, subst (λ (z : ℕ). IsPortRoot F.autos z k.0 k.1) (eqb-true i r e) k.2)
-
     foldable : IsFoldable bs p.ports n i o r b
     foldable = record {
-      input = λ e. (let k = input_of e in one_port k.0 k.1 k.2);
+      input = λ e. (let k = input_here t F over n i def there out g p fit r e in one_port k.0 k.1 k.2);
       other = λ q. some_taken fs refl q;
-      ranked = here (nat_eq i r) refl;
+      ranked = folded_has t F over n i def there out g p fit IsRanked r b ranked input_ranked output_ranked;
     }
       where
         some_taken : (gs : List ℕ) → fs ≡ gs → gs ≢ [] → HasOneTop b
         some_taken [] e q = absurd (q refl)
-        some_taken (x ∷ gs) e q = let k = port_of x gs e in one_port k.0 k.1 k.2
-
-        rest : (gs : List ℕ) → fs ≡ gs → IsRanked (other_auto bs gs b)
-        rest [] e = ranked
-        rest (x ∷ gs) e =
-            let k = port_of x gs e in
-            subst (λ (z : List ℕ). IsRanked (output_auto bs z b)) e (output_ranked k.0 k.1 k.2)
-
-        here : (w : Bool) → nat_eq i r ≡ w → IsRanked (if w then input_auto bs fs n o b else other_auto bs fs b)
-        here true e = let k = input_of e in input_ranked k.0 k.1 k.2
-        here false e = rest fs refl
+        some_taken (x ∷ gs) e q =
+            let k = taken_here t F over n i def there out g p fit r x gs e in one_port k.0 k.1 k.2
 
   each_foldable : AreFoldable bs p.ports n i o kept P.autos
   each_foldable = all_foldable bs p.ports n i o kept P.autos one
@@ -132,7 +109,7 @@ module _ (t : Boxes) (F : Forest) (over : IsOver t F) (n i : ℕ) (def : BoxDef)
           let a = component_at F.autos r in
           let z : b ≡ moved_auto h a =
           same_Some b (moved_auto h a) (sym q
-          ∙ got_mapped (λ (k : ℕ). placed_auto (renumber h) (component_at F.autos k)) order j r
+          ∙ get_mapped (λ (k : ℕ). placed_auto (renumber h) (component_at F.autos k)) order j r
           (got_left kept p.inner j r e)) in
           subst (IsFoldable bs p.ports n i o r) (sym z) (foldable r a (component_got F.autos r w.0) w.0 w.1)
 

@@ -1,14 +1,11 @@
 -- The slots of folded cells, by the slots before: they stand in order, whichever trees are taken.
-use Rattle.std.proofs.Common.{◌≡◌, ◌<◌, inl, inr, ℕ, zero, suc, Bool, true, false, cond, nat_eq, nat_le, if◌then◌else◌}
-use Rattle.std.proofs.Common.{length, List, [], ◌∷◌, ◌++◌, map, filter, refl, sym, ap, ap₂, subst, ◌∙◌, Option, Some}
+use Rattle.std.proofs.Common.{◌≡◌, ◌<◌, ℕ, zero, suc, Bool, true, false, cond, nat_eq, nat_le, if◌then◌else◌}
+use Rattle.std.proofs.Common.{length, List, [], ◌∷◌, map, filter, refl, sym, ap, ap₂, subst, ◌∙◌, Option, Some}
 use Rattle.std.proofs.Common.{None, slice_get, arith}
-use Rattle.std.proofs.lemmas.Option.{none-some, same_Some}
-use Rattle.fore_base.specs.Lists.{IsIn, Every, IsDistinct}
-use Rattle.ta_core.specs.Auto.{Automaton}
-use Rattle.ta_core.specs.Language.{InLanguage}
+use Rattle.std.proofs.lemmas.Option.{none-some, same_Some, slice_get_within}
+use Rattle.fore_base.specs.Lists.{IsIn, IsDistinct}
 use Rattle.ta_core.specs.declared.symbol.Slot.{Slot}
 use Rattle.ta_core.specs.declared.symbol.Slot.TheVariants.{Field, Link, Hook}
-use Rattle.ta_core.specs.declared.symbol.Symbol.{Symbol}
 use Rattle.ta_core.specs.declared.tree.Tree.{Tree, out-Tree}
 use Rattle.fa_core.specs.declared.boxes.BoxDef.{BoxDef}
 use Rattle.fa_core.specs.declared.faces.BoxFace.{BoxFace}
@@ -17,8 +14,8 @@ use Rattle.fa_core.specs.Boxes.{Boxes, faces_of}
 use Rattle.fa_core.specs.Choices.{all_numbers, bares, count}
 use Rattle.fa_core.specs.Dressed.{Node, Parts, Nodes, node, no_parts, field, link, hook, no_nodes, more, cells, refs}
 use Rattle.fa_core.specs.Dressed.{roots_of}
-use Rattle.fa_core.specs.Filled.{Choice, IsInOrder, RulesFit}
-use Rattle.fa_core.specs.Folding.{IsPart, IsPartWithin, is_one_of, symbol_slots, taken_at}
+use Rattle.fa_core.specs.Filled.{Choice, IsInOrder}
+use Rattle.fa_core.specs.Folding.{IsPart, IsPartWithin, symbol_slots, taken_at}
 use Rattle.fa_core.specs.Member.{OfForest, bare, slots_of}
 use Rattle.fa_core.proofs.Dressing.{bares_length, cell_top, dress_all, numbered_differ}
 use Rattle.fa_core.proofs.FilledKept.{forest_numbers}
@@ -28,14 +25,13 @@ use Rattle.fa_unfold.specs.Sites.{IsOver}
 use Rattle.fa_unfold.specs.Slots.{joined, put_in, slot_key}
 use Rattle.fa_unfold.specs.inner.Trees.{joined_parts, part_key, part_slot, unlisted}
 use Rattle.fa_unfold.proofs.EndStructs.{insides_of}
-use Rattle.fa_folding.specs.Folded.{left_parts, node_or, parts_of}
+use Rattle.fa_folding.specs.Folded.{node_or, parts_of}
 use Rattle.fa_core.proofs.SeenCells.{cell_number}
 use Rattle.fa_merge.specs.Reordered.{counted}
 use Rattle.fa_folding.proofs.Numbers.{in_counted, kept_in}
-use Rattle.fa_folding.proofs.FoldedOrder.{got_below, is_other, parts_ordered, slots_left}
+use Rattle.fa_folding.proofs.FoldedOrder.{is_other, parts_ordered, slots_left}
 use Rattle.fa_folding.proofs.FoldedTables.{e, kept_there, low}
 use Rattle.fa_folding.proofs.FoldedTrees.{edge_parts, folded_parts, gained_parts, new}
-use Rattle.fa_folding.proofs.Folding.{kept_roots}
 use Rattle.fa_folding.proofs.Insides.{numbered_at}
 
 slots_unlisted : (xs : List Part) → slots_of (unlisted xs) ≡ map part_slot xs
@@ -138,7 +134,7 @@ module _ (t : Boxes) (F : Forest) (over : IsOver t F) (n i : ℕ) (def : BoxDef)
       let l = low t F over n i def there out g p fit z.nodes z.of in
       let e : u ≡ bare (node_or z.nodes r) = tree_is z.nodes ts r u z.trees h in
       let k : IsIn r (kept_there t F over n i def there out g p fit z.nodes z.of) =
-      (let b = subst (λ (m : ℕ). r < m) (sym (ap length z.trees) ∙ bares_length z.nodes) (got_below ts r u h) in
+      (let b = subst (λ (m : ℕ). r < m) (sym (ap length z.trees) ∙ bares_length z.nodes) (slice_get_within ts r u h) in
       kept_in p.inner (counted 0 (count z.nodes)) r q
       (in_counted 0 (count z.nodes) r (omega arith) (omega (arith, b)))) in
       let o = (parts_ordered t F over n i def there out g p fit z.nodes z.of apart r k).0 in

@@ -1,20 +1,17 @@
 -- The forest that is made is sound.
-use Rattle.std.proofs.Common.{◌≡◌, ◌<◌, ◌+◌, inl, inr, ℕ, zero, suc, Bool, true, false, nat_eq, if◌then◌else◌, length}
-use Rattle.std.proofs.Common.{List, [], ◌∷◌, ◌++◌, map}
-use Rattle.std.proofs.Common.{refl, sym, ap, subst, ◌∙◌, Option, Some, None, IsSome, IsNone, slice_get, arith}
-use Rattle.std.proofs.lemmas.Bool.{eqb-true}
+use Rattle.std.proofs.Common.{◌≡◌, ◌<◌, ◌+◌, ℕ, suc, length}
+use Rattle.std.proofs.Common.{List, [], ◌∷◌, ◌++◌}
+use Rattle.std.proofs.Common.{refl, sym, subst, ◌∙◌, Option, Some, None, IsSome, IsNone, slice_get, arith}
 use Rattle.std.proofs.lemmas.Option.{none-some, same_Some}
 use Rattle.fore_base.specs.Lists.{IsIn, Every, Paired}
-use Rattle.fore_base.proofs.ListLemmas.{every_in, every_weaker}
-use Rattle.ta_core.specs.Arity.{arity}
+use Rattle.fore_base.proofs.ListLemmas.{every_in, every_weaker, in_from_place}
 use Rattle.ta_core.specs.Auto.{Automaton, IsRanked}
 use Rattle.ta_core.specs.Language.{RunOf}
 use Rattle.ta_core.specs.declared.auto.Rule.{Rule}
 use Rattle.ta_core.specs.Single.{HasOneTop}
-use Rattle.ta_core.specs.declared.symbol.Symbol.{Symbol}
 use Rattle.ta_core.specs.declared.symbol.Symbol.TheVariants.{Cell as CellSymbol}
-use Rattle.fa_split.specs.Split.{top_rule}
 use Rattle.ta_core.specs.declared.tree.Tree.{Tree}
+use Rattle.fa_split.specs.Split.{top_rule}
 use Rattle.fa_core.specs.declared.boxes.BoxDef.{BoxDef}
 use Rattle.fa_core.specs.declared.faces.BoxFace.{BoxFace}
 use Rattle.fa_core.specs.declared.faces.Face.{Face}
@@ -32,17 +29,16 @@ use Rattle.fa_unfold.specs.Sites.{IsOver}
 use Rattle.fa_unfold.specs.Slots.{Place}
 use Rattle.fa_folding.specs.Gaining.{edge_place, edge_rules, input_auto, output_auto}
 use Rattle.fa_folding.specs.Made.{folded_autos, folded_component, folded_forest, kept_first, kept_of, new_output}
-use Rattle.fa_folding.specs.Made.{other_auto}
-use Rattle.fa_folding.proofs.FoldMade.{edge_above, edge_only, edge_right, edge_runs, input_port, one_leaf, one_moved}
-use Rattle.fa_folding.proofs.FoldMade.{taken_port}
-use Rattle.fa_folding.proofs.FoldMade.{got_mapped, ranked_here, top_here, one_here}
+use Rattle.fa_folding.proofs.FoldMade.{edge_above, edge_only, edge_right, edge_runs, one_leaf}
 use Rattle.fa_folding.proofs.FoldSound.{IsGood, gained_good, table_gives}
-use Rattle.fa_folding.proofs.FoldWhole.{fold_made, got_left, kept_here, same_numbers}
+use Rattle.fa_folding.proofs.FoldWhole.{fold_made, got_left, kept_here, kept_ranked, kept_one, kept_top}
 use Rattle.fa_folding.proofs.FoldedForests.{trees_filled_here}
 use Rattle.fa_folding.proofs.FoldedOrder.{face_there}
 use Rattle.fa_folding.proofs.GainedSigned.{IsGrown}
 use Rattle.fa_folding.proofs.Moving.{moved_auto}
 use Rattle.fa_folding.proofs.SlotRuns.{Grown, SlotRuns}
+use Rattle.fa_folding.proofs.FoldWhole.{folded_has}
+use Rattle.fa_merge.proofs.OtherOrders.{get_mapped}
 
 -- The slot of a box.
 
@@ -141,17 +137,14 @@ module _ (t : Boxes) (F : Forest) (over : IsOver t F) (n i : ℕ) (def : BoxDef)
       fs = taken_at p.ports r
 
       ranked : IsRanked b
-      ranked = ranked_here t F over n i def there out g p fit h (same_numbers t F over n i def there out g p fit) r a at
-          low_r own
+      ranked = kept_ranked t F over n i def there out g p fit r a at low_r own
 
       module _ (shape : ℕ) (own_fields : List ℕ) (port : IsPortRoot F.autos r shape own_fields) where
         one_b : HasOneTop b
-        one_b = one_moved h a (one_here t F over n i def there out g p fit h
-            (same_numbers t F over n i def there out g p fit) r a at low_r own shape own_fields port)
+        one_b = kept_one t F over n i def there out g p fit r a at low_r own shape own_fields port
 
         top_b : (top_rule b).symbol ≡ CellSymbol shape port.datums port.slots
-        top_b = top_here t F over n i def there out g p fit h
-            (same_numbers t F over n i def there out g p fit) r a at low_r own shape own_fields port
+        top_b = kept_top t F over n i def there out g p fit r a at low_r own shape own_fields port
 
         input_good : IsGood face (input_auto bs fs n o b)
         input_good = gained_good face giving b ranked one_b shape port.datums port.slots top_b fs good
@@ -169,25 +162,7 @@ module _ (t : Boxes) (F : Forest) (over : IsOver t F) (n i : ℕ) (def : BoxDef)
             none_only (v ∷ vs) k = absurd k
 
       component_good : IsGood face (folded_component bs p.ports n i o r b)
-      component_good = here (nat_eq i r) refl
-        where
-          other : (gs : List ℕ) → fs ≡ gs → IsGood face (other_auto bs gs b)
-          other [] q = good
-          other (x ∷ gs) q =
-              let k = taken_port F.autos p.ports p.shapes r x p.roots (subst (IsIn x) (sym q) (inl refl)) in
-              subst (λ (z : List ℕ). IsGood face (output_auto bs z b)) q (output_good k.0 k.1 k.2)
-
-          here : (w : Bool) → nat_eq i r ≡ w
-              → IsGood face (if w then input_auto bs fs n o b else other_auto bs fs b)
-          here true e =
-              let k = input_port bs def i out p.ports p.shapes F.autos p.are_ports p.roots in
-              input_good k.0 k.1 (subst (λ (z : ℕ). IsPortRoot F.autos z k.0 k.1) (eqb-true i r e) k.2)
-          here false e = other fs refl
-
-    auto_in : (autos : List Automaton) (j : ℕ) (b : Automaton) → slice_get autos j ≡ Some b → IsIn b autos
-    auto_in [] j b e = absurd (none-some b e)
-    auto_in (c ∷ autos) zero b e = inl (sym (same_Some c b e))
-    auto_in (c ∷ autos) (suc j) b e = inr (auto_in autos j b e)
+      component_good = folded_has t F over n i def there out g p fit (IsGood face) r b good input_good output_good
 
     all_good : Every (IsGood face) made.autos
     all_good = each_folded bs (IsGood face) p.ports n i o kept P.autos one
@@ -199,9 +174,10 @@ module _ (t : Boxes) (F : Forest) (over : IsOver t F) (n i : ℕ) (def : BoxDef)
             let a = component_at F.autos r in
             let z : b ≡ moved_auto h a =
             same_Some b (moved_auto h a) (sym q
-            ∙ got_mapped (λ (k : ℕ). placed_auto (renumber h) (component_at F.autos k)) order j r
+            ∙ get_mapped (λ (k : ℕ). placed_auto (renumber h) (component_at F.autos k)) order j r
             (got_left kept p.inner j r e)) in
-            let there_b : IsGood face (moved_auto h a) = subst (IsGood face) z (good_in b (auto_in P.autos j b q)) in
+            let there_b : IsGood face (moved_auto h a) =
+            subst (IsGood face) z (good_in b (in_from_place P.autos j b q)) in
             subst (λ (c : Automaton). IsGood face (folded_component bs p.ports n i o r c)) (sym z)
             (component_good r a (component_got F.autos r w.0) w.0 w.1 there_b)
 

@@ -1,20 +1,18 @@
 -- The fold of a dressed forest over a table: its references and insides.
 use Rattle.std.proofs.Common.{◌≡◌, ◌<◌, inl, inr, ℕ, zero, suc, Bool, true, false, cond, nat_eq, if◌then◌else◌, List}
-use Rattle.std.proofs.Common.{[], ◌∷◌, ◌++◌, map, length, flat_map, refl, sym, ap, subst, ◌∙◌, Option, Some, None}
+use Rattle.std.proofs.Common.{[], ◌∷◌, ◌++◌, flat_map, refl, sym, ap, subst, Option, Some, None}
 use Rattle.std.proofs.Common.{slice_get, arith}
-use Rattle.std.proofs.lemmas.Option.{none-some, same_Some}
 use Rattle.fore_base.specs.Lists.{IsIn, Every}
 use Rattle.fore_base.specs.declared.store.Value.{Value}
 use Rattle.fore_base.specs.declared.store.Value.TheVariants.{Cell, Dangling as DanglingValue}
-use Rattle.fore_base.proofs.ListLemmas.{every_append, every_in, in_every, in_left, in_right}
+use Rattle.fore_base.proofs.ListLemmas.{every_append, every_in, in_left}
 use Rattle.fa_core.specs.declared.boxes.BoxDef.{BoxDef}
 use Rattle.fa_core.specs.declared.faces.BoxFace.{BoxFace}
 use Rattle.fa_core.specs.declared.forest.Forest.{Forest}
 use Rattle.fa_core.specs.declared.forest.Target.{Target}
-use Rattle.fa_core.specs.declared.forest.Target.TheVariants.{At}
 use Rattle.fa_core.specs.Boxes.{Boxes, faces_of}
-use Rattle.fa_core.specs.Choices.{bares, count}
-use Rattle.fa_core.specs.Dressed.{Node, Parts, Nodes, node, no_parts, field, link, hook, leaf, no_nodes, more, SeenCell}
+use Rattle.fa_core.specs.Choices.{count}
+use Rattle.fa_core.specs.Dressed.{Node, Parts, Nodes, node, no_parts, field, link, hook, no_nodes, more}
 use Rattle.fa_core.specs.Dressed.{all_refs, forest_cells, nth_value, number, refs, refs_of, roots_of, cells}
 use Rattle.fa_core.specs.Folding.{IsPart, IsPartWithin, taken_at}
 use Rattle.fa_core.specs.Member.{InsidesOf, InsidesOfParts, OfForest, TreesOf}
@@ -23,8 +21,8 @@ use Rattle.fa_core.specs.References.{AllBelow}
 use Rattle.fa_core.specs.Ways.{has}
 use Rattle.fa_core.proofs.Placing.{insides_placed, refs_placed_parts, refs_put}
 use Rattle.fa_split.proofs.SplitCells.{all_below, refers_well}
-use Rattle.fa_unfold.specs.Opens.{Item, HasSlot, Opens}
-use Rattle.fa_unfold.specs.Parts.{Part, listed}
+use Rattle.fa_unfold.specs.Opens.{Item, Opens}
+use Rattle.fa_unfold.specs.Parts.{listed}
 use Rattle.fa_unfold.specs.Sites.{IsOver}
 use Rattle.fa_unfold.specs.Slots.{joined}
 use Rattle.fa_unfold.specs.inner.Trees.{joined_parts, part_key}
@@ -32,17 +30,14 @@ use Rattle.fa_unfold.proofs.Joins.{joined_every, joined_same}
 use Rattle.fa_unfold.proofs.OpenedFits.{IsSlotItem}
 use Rattle.fa_unfold.proofs.OpenedOnce.{CellInside, tree_insides}
 use Rattle.fa_unfold.proofs.PartItems.{list_refs, part_refs, slots_refs}
-use Rattle.fa_unfold.proofs.PortTrees.{PartInside, every_same, insides_listed, insides_unlisted}
-use Rattle.fa_core.specs.Rearranged.{Rearranged}
-use Rattle.fa_core.proofs.Rearranging.{back, flat_mapped, flat_map-append}
+use Rattle.fa_unfold.proofs.PortTrees.{PartInside, insides_listed, insides_unlisted}
+use Rattle.fa_core.proofs.Rearranging.{back, flat_mapped, flat_map-append, every_moved}
 use Rattle.ta_core.specs.Auto.{Automaton}
-use Rattle.fa_folding.specs.Folded.{each_node, left_parts, node_or, parts_of, root_cell}
+use Rattle.fa_folding.specs.Folded.{each_node, left_parts, node_or, parts_of}
 use Rattle.fa_folding.proofs.Folding.{ends_there, inside, kept_roots}
-use Rattle.fa_folding.proofs.FoldedTrees.{edge_item, edge_parts, fold_opens, folded, folded_node, folded_parts}
+use Rattle.fa_folding.proofs.FoldedTrees.{edge_item, edge_parts, fold_opens, folded, folded_node}
 use Rattle.fa_folding.proofs.FoldedTrees.{gained_parts, left_alone, moves, new}
-use Rattle.fa_folding.proofs.Insides.{inside_is, numbered_at, part_is_inside, tree_there}
-use Rattle.fa_merge.specs.Reordered.{counted}
-use Rattle.fa_folding.proofs.Numbers.{counted_above, in_kept}
+use Rattle.fa_folding.proofs.Insides.{inside_is, numbered_at, part_is_inside}
 
 -- References of trees by their place.
 
@@ -83,7 +78,7 @@ joined_refs P bs ps qs h k =
     every_append P (flat_map part_refs (listed qs)) (flat_map part_refs (listed ps))
     (subst (Every P) (slots_refs qs) k) (subst (Every P) (slots_refs ps) h) in
     subst (Every P) (sym (list_refs (joined (part_key bs) (listed ps) (listed qs))))
-    (every_same P (back r) (subst (Every P) (sym (flat_map-append part_refs (listed qs) (listed ps))) a))
+    (every_moved P (back r) (subst (Every P) (sym (flat_map-append part_refs (listed qs) (listed ps))) a))
 
 left_insides : (T : List BoxDef) (fs : List ℕ) (ps : Parts) → InsidesOfParts T ps → InsidesOfParts T (left_parts fs ps)
 left_insides T fs no_parts h = tt

@@ -1,27 +1,25 @@
 -- The dressed forest in which the part of another one is put inside a box edge: that edge opens into the part.
-use Rattle.std.proofs.Common.{◌≡◌, ◌<◌, inl, inr, ℕ, Bool, true, false, true≢false, cond, nat_eq, if◌then◌else◌, List}
-use Rattle.std.proofs.Common.{[], ◌∷◌, ◌++◌, map, refl, sym, ap, ap₂, subst, ◌∙◌, Option, Some, None, append-nil}
+use Rattle.std.proofs.Common.{◌≡◌, ◌<◌, inl, ℕ, Bool, true, false, true≢false, cond, nat_eq, if◌then◌else◌, List}
+use Rattle.std.proofs.Common.{[], ◌∷◌, ◌++◌, map, refl, sym, ap, subst, ◌∙◌, Option, Some, None}
 use Rattle.std.proofs.Common.{append_assoc, arith, ◌||◌}
 use Rattle.std.proofs.lemmas.Bool.{eqb-true, eq-eqb}
 use Rattle.fore_base.specs.Lists.{IsIn, Every, IsDistinct}
 use Rattle.fore_base.specs.declared.store.Value.{Value}
-use Rattle.fore_base.specs.declared.store.Value.TheVariants.{Cell}
 use Rattle.fore_base.proofs.ListLemmas.{every_weaker, in_every, in_right}
 use Rattle.fa_core.specs.declared.boxes.BoxDef.{BoxDef}
 use Rattle.fa_core.specs.declared.faces.BoxFace.{BoxFace}
 use Rattle.fa_core.specs.declared.forest.Forest.{Forest}
-use Rattle.fa_core.specs.declared.forest.Target.{Target}
 use Rattle.fa_core.specs.declared.forest.Target.TheVariants.{At}
 use Rattle.fa_core.specs.Choices.{bares, count}
 use Rattle.fa_core.proofs.Dressing.{bares_length}
 use Rattle.fa_core.specs.Dressed.{Node, Parts, Nodes, node, no_parts, field, link, hook, leaf, number, refs, refs_of}
-use Rattle.fa_core.specs.Dressed.{nth_value, value_in, end_value, roots_of, inside_facts, SeenField, SeenLink, SeenHook}
-use Rattle.fa_core.specs.Folding.{Ports, PortsAre, taken_at, left_refs, number_without, IsPart}
+use Rattle.fa_core.specs.Dressed.{nth_value, end_value, roots_of, inside_facts, SeenField, SeenLink, SeenHook}
+use Rattle.fa_core.specs.Folding.{Ports, PortsAre, taken_at, number_without, IsPart}
 use Rattle.fa_core.specs.Member.{OfForest}
 use Rattle.fa_core.specs.Placed.{placed_parts}
 use Rattle.fa_core.specs.Rearranged.{Rearranged, keep, chain}
 use Rattle.fa_core.specs.Ways.{has}
-use Rattle.fa_core.proofs.Rearranging.{same, equal, back, after, before, both, exchange, middle}
+use Rattle.fa_core.proofs.Rearranging.{same, back, after, exchange, middle}
 use Rattle.fa_unfold.specs.Opens.{Item, IsCell, HasSlot, tree_items, slot_items, end_items, opened, Opens}
 use Rattle.fa_unfold.specs.Opens.{inside_boxes, all_boxes}
 use Rattle.fa_unfold.specs.inner.Trees.{joined_parts}
@@ -29,13 +27,12 @@ use Rattle.fa_unfold.proofs.PartItems.{joined_items}
 use Rattle.fa_folding.specs.Folded.{taken_parts, left_parts, shape_of, datums_of, parts_of, node_or, each_node}
 use Rattle.fa_folding.specs.Folded.{root_cell}
 use Rattle.fa_folding.proofs.EdgeIs.{link_is, hook_is}
-use Rattle.fa_folding.proofs.Folding.{inside, kept_roots, once_here, low_here, choice_of, part_folds}
+use Rattle.fa_folding.proofs.Folding.{inside, kept_roots, once_here, choice_of, part_folds}
 use Rattle.fa_folding.proofs.Insides.{numbered_at}
 use Rattle.fa_folding.proofs.Law.{Agrees, edge_at, port_cells, rest_items, taken_items, none_items, parts_agree}
 use Rattle.fa_merge.specs.Reordered.{counted}
-use Rattle.fa_folding.proofs.Lists.{ArePartsApart}
-use Rattle.fa_folding.proofs.Numbers.{in_kept, is_kept, new_number, counted_above}
-use Rattle.fa_folding.specs.Made.{kept_of}
+use Rattle.fa_folding.proofs.Lists.{ArePartsApart, both_in}
+use Rattle.fa_folding.proofs.Numbers.{in_kept, new_number, counted_above}
 use Rattle.fa_back.proofs.RootMarks.{has_in}
 use Rattle.fa_folding.proofs.Reached.{left_refer, root_there}
 
@@ -91,11 +88,6 @@ distinct_apart (x ∷ fs) gs d f p q = here (nat_eq f x) refl p (λ h. distinct_
     here : (b : Bool) → nat_eq f x ≡ b → (b || has f fs) ≡ true → (has f fs ≡ true → ⊥) → ⊥
     here true e h rec = d.0 (in_right x fs gs (subst (λ (z : ℕ). IsIn z gs) (eqb-true f x e) (has_in f gs q)))
     here false e h rec = rec h
-
-both_in : (k : ℕ) (xs ys zs : List ℕ) → (IsIn k ys → IsIn k zs) → IsIn k (xs ++ ys) → IsIn k (xs ++ zs)
-both_in k [] ys zs f i = f i
-both_in k (x ∷ xs) ys zs f (inl e) = inl e
-both_in k (x ∷ xs) ys zs f (inr i) = inr (both_in k xs ys zs f i)
 
 module _ (d : Nodes) where
   ports_apart : (ps : Ports) → ((r : ℕ) → IsDistinct (taken_at ps r))

@@ -1,24 +1,23 @@
 -- From the definition of parts to the law: what is left to give are the trees of the kept roots.
-use Rattle.std.proofs.Common.{◌≡◌, ◌⊎◌, inl, inr, ℕ, zero, suc, ◌<◌, List, [], ◌∷◌, ◌++◌, map, length, refl, sym, ap}
-use Rattle.std.proofs.Common.{ap₂, subst, ◌∙◌, Option, Some, None, slice_get, arith}
+use Rattle.std.proofs.Common.{◌≡◌, inl, inr, ℕ, zero, suc, ◌<◌, List, [], ◌∷◌, ◌++◌, map, length, refl, sym, ap}
+use Rattle.std.proofs.Common.{subst, Option, Some, None, slice_get, arith}
 use Rattle.std.proofs.lemmas.Option.{none-some, same_Some}
-use Rattle.fore_base.specs.Lists.{IsIn, Every, Paired, IsDistinct}
-use Rattle.fore_base.specs.declared.store.Value.TheVariants.{Cell}
+use Rattle.fore_base.specs.Lists.{IsIn, IsDistinct}
 use Rattle.ta_core.specs.Auto.{Automaton}
 use Rattle.fa_core.specs.declared.boxes.BoxDef.{BoxDef}
 use Rattle.fa_core.specs.declared.faces.BoxFace.{BoxFace}
 use Rattle.fa_core.specs.declared.forest.Forest.{Forest}
 use Rattle.fa_core.specs.Choices.{bares, count}
-use Rattle.fa_core.specs.Dressed.{Node, Nodes, no_nodes, more, number, refs, roots_of, inside_facts, SeenLink, SeenHook}
+use Rattle.fa_core.specs.Dressed.{Node, Nodes, no_nodes, more, refs, roots_of, inside_facts}
 use Rattle.fa_core.specs.Filled.{Choice}
-use Rattle.fa_core.specs.Folding.{Ports, taken_at, position, IsPart, IsPartWithin, ArePortRoots, IsPortRoot}
-use Rattle.fa_core.specs.Folding.{AreInnerAutos, PortsAre, IsLanguageOf, moved_tree}
+use Rattle.fa_core.specs.Folding.{Ports, taken_at, position, IsPart, ArePortRoots}
+use Rattle.fa_core.specs.Folding.{AreInnerAutos, PortsAre}
 use Rattle.fa_core.specs.Member.{TreesOf, OfForest}
 use Rattle.fa_core.specs.Rearranged.{Rearranged}
-use Rattle.fa_unfold.specs.Opens.{Item, HasSlot, tree_items, opened, Opens, inside_boxes, all_boxes}
-use Rattle.fa_folding.specs.Folded.{node_or, each_node, root_cell, inside_of_part}
+use Rattle.fa_unfold.specs.Opens.{Item, tree_items, opened, Opens, inside_boxes, all_boxes}
+use Rattle.fa_folding.specs.Folded.{node_or, each_node, inside_of_part}
 use Rattle.fa_folding.proofs.Insides.{numbered_at}
-use Rattle.fa_folding.proofs.Law.{AsMany, edge_at, rest_items, taken_items, none_items, port_cells, IsFolding}
+use Rattle.fa_folding.proofs.Law.{AsMany, edge_at, rest_items, taken_items, none_items, port_cells}
 use Rattle.fa_folding.proofs.Law.{folding_opens}
 use Rattle.fa_folding.proofs.Lists.{AreIn, ArePartsApart}
 use Rattle.fa_folding.proofs.Numbers.{kept, all_roots, kept_once, is_kept}

@@ -1,20 +1,20 @@
 -- Where the trees of a component have one signature, so have those of the component that loses some slots and gains
 -- others.
-use Rattle.std.proofs.Common.{◌≡◌, inl, inr, ℕ, ◌<◌, ◌≤◌, ◌+◌, ◌⊎◌, ◌↔◌, not, Bool, true, false, true≢false, cond}
+use Rattle.std.proofs.Common.{◌≡◌, inl, inr, ℕ, ◌<◌, ◌+◌, ◌⊎◌, ◌↔◌, not, Bool, true, false, true≢false, cond}
 use Rattle.std.proofs.Common.{length, List}
-use Rattle.std.proofs.Common.{[], ◌∷◌, ◌++◌, map, filter, flat_map, refl, sym, ap, ap₂, subst, ◌∙◌, arith}
+use Rattle.std.proofs.Common.{[], ◌∷◌, ◌++◌, map, filter, flat_map, refl, sym, ap, subst, ◌∙◌, arith}
 use Rattle.fore_base.specs.Lists.{IsIn, Every, Paired}
 use Rattle.fore_base.specs.declared.store.Datum.{Datum}
 use Rattle.ta_core.specs.Arity.{arity}
 use Rattle.ta_core.specs.Auto.{Automaton, IsRanked}
-use Rattle.ta_core.specs.Language.{InLanguage, RunEach, RunOf, run, run_none, run_more}
+use Rattle.ta_core.specs.Language.{InLanguage, RunEach, RunOf, run_more}
 use Rattle.ta_core.specs.Single.{HasOneTop}
 use Rattle.ta_core.specs.declared.auto.Rule.{Rule}
 use Rattle.ta_core.specs.declared.symbol.Slot.{Slot}
 use Rattle.ta_core.specs.declared.symbol.Slot.TheVariants.{Field, Link, Hook}
 use Rattle.ta_core.specs.declared.symbol.Symbol.{Symbol}
 use Rattle.ta_core.specs.declared.symbol.Symbol.TheVariants.{Cell}
-use Rattle.ta_core.specs.declared.tree.Tree.{Tree, Tree-F, out-Tree, out-roll-Tree, roll-out-Tree}
+use Rattle.ta_core.specs.declared.tree.Tree.{Tree, Tree-F, out-Tree, out-roll-Tree}
 use Rattle.ta_core.proofs.Runs.{tree_of}
 use Rattle.fa_core.specs.declared.faces.BoxFace.{BoxFace}
 use Rattle.fa_core.specs.declared.signature.Below.{Below}
@@ -23,20 +23,19 @@ use Rattle.fa_core.specs.Filled.{HasSignatures, HasSome}
 use Rattle.fa_core.specs.Folding.{cell_of, is_one_of, left, places, symbol_slots, top_places}
 use Rattle.fa_core.specs.Ways.{signature}
 use Rattle.fa_core.proofs.CellMarks.{tree_signature}
-use Rattle.fa_merge.proofs.MergedAnywhere.{nat_cases}
 use Rattle.fa_split.specs.Giving.{SlotGives}
 use Rattle.fa_split.specs.Split.{top_rule}
 use Rattle.fa_split.proofs.EdgeMarks.{AddsSame, EdgesSame, no_edges, an_edge, cell_kept}
-use Rattle.fa_split.proofs.FreshStates.{stay, fresh_run}
-use Rattle.fa_split.proofs.RunMarks.{runs_same, seen}
+use Rattle.fa_split.proofs.RunMarks.{runs_same}
 use Rattle.fa_split.proofs.TopRules.{top_by_tree, tree_by_top}
-use Rattle.fa_unfold.specs.Slots.{Place, joined, place_key, slot_key}
+use Rattle.fa_unfold.specs.Slots.{Place, joined, slot_key}
 use Rattle.fa_unfold.proofs.Joins.{joined_every, joined_paired}
-use Rattle.fa_unfold.proofs.PlaceRuns.{IsPlace, IsPlaceAt}
+use Rattle.fa_unfold.proofs.PlaceRuns.{IsPlace}
 use Rattle.fa_folding.specs.Gaining.{gained_auto}
 use Rattle.fa_folding.proofs.GainedTrees.{gained_language, gained_runs, gained_tree}
 use Rattle.fa_folding.proofs.FoldedPlaces.{grown_key}
 use Rattle.fa_folding.proofs.SlotRuns.{Grown, SlotRuns, all_items, all_slots}
+use Rattle.fa_folding.proofs.Lists.{every_filter}
 
 -- Slots with their children, edge by edge.
 
@@ -164,14 +163,6 @@ module _ (bs : List BoxFace) where
     grown_right (Link b ∷ ss) [] (t ∷ ts) h = elim h [ ]
     grown_right (Link b ∷ ss) (q ∷ qs) [] h = elim h [ ]
     grown_right (Link b ∷ ss) (q ∷ qs) (t ∷ ts) (run_more r rs) = ((t, refl), grown_right ss qs ts rs)
-
-every_filter : {X : Type 0} (q : X → Bool) (P : X → Type 0) (xs : List X) → Every P xs → Every P (filter q xs)
-every_filter q P [] h = tt
-every_filter q P (x ∷ xs) h = here (q x) (every_filter q P xs h.1)
-  where
-    here : (b : Bool) → Every P (filter q xs) → Every P (cond b (x ∷ filter q xs) (filter q xs))
-    here true k = (h.0, k)
-    here false k = k
 
 module _ (bs : List BoxFace) (a : Automaton) (ranked : IsRanked a) (one : HasOneTop a) (s : ℕ) (ds : List Datum)
     (ss : List Slot) (top : (top_rule a).symbol ≡ Cell s ds ss) (fs : List ℕ) (more : List Grown)

@@ -1,7 +1,7 @@
 -- The trees of a component that loses some slots and gains others at its top.
-use Rattle.std.proofs.Common.{◌≡◌, ◌↔◌, inl, inr, ℕ, ◌<◌, ◌≤◌, ◌+◌, ◌⊎◌, not, Bool, true, false, cond, length, List, []}
+use Rattle.std.proofs.Common.{◌≡◌, ◌↔◌, inl, inr, ℕ, ◌<◌, ◌≤◌, ◌+◌, ◌⊎◌, not, Bool, length, List, []}
 use Rattle.std.proofs.Common.{◌∷◌}
-use Rattle.std.proofs.Common.{◌++◌, map, filter, flat_map, refl, sym, ap, ap₂, subst, ◌∙◌, arith}
+use Rattle.std.proofs.Common.{◌++◌, map, refl, sym, ap, ap₂, subst, ◌∙◌, arith}
 use Rattle.fore_base.specs.Lists.{IsIn, Every, Paired}
 use Rattle.fore_base.specs.declared.store.Datum.{Datum}
 use Rattle.fore_base.proofs.ListLemmas.{every_append, every_in, in_right}
@@ -18,7 +18,6 @@ use Rattle.ta_core.proofs.Runs.{run_tree, tree_of}
 use Rattle.fa_core.specs.declared.faces.BoxFace.{BoxFace}
 use Rattle.fa_core.specs.Filled.{HasSome}
 use Rattle.fa_core.specs.Folding.{cell_of, is_one_of, left, places, symbol_slots, top_places}
-use Rattle.fa_split.specs.Chosen.{chosen}
 use Rattle.fa_split.specs.Split.{top_rule}
 use Rattle.fa_split.proofs.ChosenTrees.{one_item}
 use Rattle.fa_split.proofs.FreshStates.{fresh_run, rules_more, states_more, stay, stay_each, widen_each}
@@ -33,14 +32,7 @@ use Rattle.fa_folding.proofs.FoldedPlaces.{grown_key}
 use Rattle.fa_folding.proofs.SlotRuns.{Grown, SlotRuns, all_items, all_slots, filter_run, places_again, places_run}
 use Rattle.fa_folding.proofs.SlotRuns.{refill}
 use Rattle.fa_folding.proofs.SlotRuns.{run_slots, slots_run, slots_turned}
-
-every_filter : {X : Type 0} (q : X → Bool) (P : X → Type 0) (xs : List X) → Every P xs → Every P (filter q xs)
-every_filter q P [] h = tt
-every_filter q P (x ∷ xs) h = here (q x) (every_filter q P xs h.1)
-  where
-    here : (b : Bool) → Every P (filter q xs) → Every P (cond b (x ∷ filter q xs) (filter q xs))
-    here true k = (h.0, k)
-    here false k = k
+use Rattle.fa_folding.proofs.Lists.{every_filter}
 
 module _ (bs : List BoxFace) (a : Automaton) (ranked : IsRanked a) (one : HasOneTop a) (s : ℕ) (ds : List Datum)
     (ss : List Slot) (top : (top_rule a).symbol ≡ Cell s ds ss) (fs : List ℕ) (xs : List Rule) (gain : List Place)

@@ -1,17 +1,15 @@
 -- The inside that is made of the part of a dressed forest is a dressed forest of the part, and so of the box.
-use Rattle.std.proofs.Common.{◌≡◌, ◌⊎◌, inl, inr, ℕ, zero, suc, Bool, true, false, cond, List, [], ◌∷◌, ◌++◌, map}
-use Rattle.std.proofs.Common.{flat_map, refl, sym, ap, ap₂, subst, ◌∙◌, Option, Some, None, slice_get}
+use Rattle.std.proofs.Common.{◌≡◌, ℕ, zero, suc, Bool, true, false, cond, List, [], ◌∷◌, ◌++◌, map}
+use Rattle.std.proofs.Common.{refl, sym, ap, ap₂, subst, ◌∙◌, Option, Some, slice_get}
 use Rattle.std.proofs.lemmas.Option.{none-some, same_Some}
-use Rattle.fore_base.specs.Lists.{IsIn, Every, Paired}
-use Rattle.fore_base.specs.declared.store.Datum.{Datum}
+use Rattle.fore_base.specs.Lists.{Paired}
 use Rattle.ta_core.specs.Auto.{Automaton}
 use Rattle.ta_core.specs.Language.{InLanguage, IsWithin}
 use Rattle.ta_core.specs.declared.symbol.Slot.{Slot}
 use Rattle.ta_core.specs.declared.symbol.Slot.TheVariants.{Field, Link, Hook}
 use Rattle.ta_core.specs.declared.symbol.Symbol.{Symbol}
-use Rattle.ta_core.specs.declared.symbol.Symbol.TheVariants.{Null as NullSymbol, Uninit as UninitSymbol}
-use Rattle.ta_core.specs.declared.symbol.Symbol.TheVariants.{Dangling as DanglingSymbol, Ref, Cell as CellSymbol}
-use Rattle.ta_core.specs.declared.tree.Tree.{Tree, Tree-F, roll-Tree, out-Tree, out-roll-Tree, fold-roll-Tree}
+use Rattle.ta_core.specs.declared.symbol.Symbol.TheVariants.{Cell as CellSymbol}
+use Rattle.ta_core.specs.declared.tree.Tree.{Tree, Tree-F, roll-Tree, fold-roll-Tree}
 use Rattle.fa_core.specs.declared.boxes.BoxDef.{BoxDef}
 use Rattle.fa_core.specs.declared.faces.BoxFace.{BoxFace}
 use Rattle.fa_core.specs.declared.forest.Forest.{Forest}
@@ -19,15 +17,14 @@ use Rattle.fa_core.specs.declared.forest.Target.{Target}
 use Rattle.fa_core.specs.declared.forest.Target.TheVariants.{Null, Uninit, Dangling, At}
 use Rattle.fa_core.specs.Dressed.{Node, Parts, End, Nodes, node, no_parts, field, link, hook, under, leaf, no_nodes}
 use Rattle.fa_core.specs.Dressed.{more}
-use Rattle.fa_core.specs.Folding.{moved_symbol, moved_tree, moved_places, cell_of, taken, top_places, position, Ports}
-use Rattle.fa_core.specs.Folding.{port_tree, IsLanguageOf, ArePortAutos, AreInnerAutos, IsPart, IsPartWithin}
+use Rattle.fa_core.specs.Folding.{moved_symbol, moved_tree, moved_places, cell_of, taken, position, Ports}
+use Rattle.fa_core.specs.Folding.{port_tree, ArePortAutos, AreInnerAutos, IsPart, IsPartWithin}
 use Rattle.fa_core.specs.Member.{bare, bare_parts, bare_end, slots_of, leaf_symbol, inside_of, InsidesOf}
 use Rattle.fa_core.specs.Member.{InsidesOfParts, TreesOf, OfForest}
 use Rattle.fa_core.specs.Placed.{placed, placed_parts, placed_end, placed_leaf}
 use Rattle.fa_core.specs.Ways.{has}
 use Rattle.fa_core.proofs.Placing.{insides_placed, slots_placed}
-use Rattle.fa_folding.specs.Folded.{taken_parts, parts_of, node_or, each_node, port_nodes, inside_of_part}
-use Rattle.fa_folding.proofs.Law.{AsMany}
+use Rattle.fa_folding.specs.Folded.{taken_parts, parts_of, node_or, each_node, inside_of_part}
 use Rattle.fa_folding.proofs.Places.{part_places, top_places_are, taken_places, cell_is}
 
 abbrev pub numbered_at : (ℕ → ℕ) → ℕ → Target

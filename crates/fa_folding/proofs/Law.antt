@@ -1,10 +1,8 @@
 -- The law of folding, on dressed forests: where the part of a dressed forest is put inside a box edge, the edge opens
 -- into the part again.
-use Rattle.std.proofs.Common.{◌≡◌, ◌⊎◌, inl, inr, ℕ, zero, suc, ◌<◌, Bool, true, false, nat_eq, if◌then◌else◌, cond}
-use Rattle.std.proofs.Common.{length, List, [], ◌∷◌, ◌++◌, map, flat_map, refl, sym, ap, ap₂, subst, ◌∙◌, append_assoc}
-use Rattle.std.proofs.Common.{append-nil, arith}
+use Rattle.std.proofs.Common.{◌≡◌, inl, inr, ℕ, nat_eq, if◌then◌else◌}
+use Rattle.std.proofs.Common.{List, [], ◌∷◌, ◌++◌, map, flat_map, refl, sym, ap, ap₂, subst, ◌∙◌, append_assoc}
 use Rattle.fore_base.specs.Lists.{IsIn, Every, IsDistinct}
-use Rattle.fore_base.specs.declared.store.Datum.{Datum}
 use Rattle.fore_base.specs.declared.store.Value.{Value}
 use Rattle.fore_base.specs.declared.store.Value.TheVariants.{Cell}
 use Rattle.fore_base.proofs.ListLemmas.{every_parts}
@@ -13,24 +11,25 @@ use Rattle.fa_core.specs.declared.forest.Target.TheVariants.{Null, Uninit, Dangl
 use Rattle.fa_core.specs.Choices.{count}
 use Rattle.fa_core.specs.Dressed.{Node, Parts, End, Nodes, node, no_parts, field, link, hook, under, leaf, no_nodes}
 use Rattle.fa_core.specs.Dressed.{more, number, nth_value, value_in, end_value, roots_of, with_ports, Fact, slot_facts}
-use Rattle.fa_core.specs.Dressed.{forest_facts, inside_facts, SeenField, SeenLink, SeenHook, refs, refs_of, end_refs}
+use Rattle.fa_core.specs.Dressed.{forest_facts, inside_facts, refs, refs_of, end_refs}
 use Rattle.fa_core.specs.Dressed.{leaf_refs}
 use Rattle.fa_core.specs.Folding.{Ports, taken_at}
 use Rattle.fa_core.specs.Placed.{placed_leaf, placed, placed_parts, placed_end}
-use Rattle.fa_core.specs.Rearranged.{Rearranged, empty, keep, swap, chain}
+use Rattle.fa_core.specs.Rearranged.{Rearranged, empty, keep, chain}
 use Rattle.fa_core.proofs.Placing.{number_placed}
-use Rattle.fa_core.proofs.Rearranging.{same, equal, back, after, before, both, exchange, middle, flat_map-append}
+use Rattle.fa_core.proofs.Rearranging.{same, back, after, before, both, exchange, middle, flat_map-append}
 use Rattle.fa_core.proofs.Rearranging.{flat_mapped}
-use Rattle.fa_unfold.specs.Opens.{Item, IsCell, HasSlot, tree_items, slot_items, end_items, forest_items, items, opened}
+use Rattle.fa_unfold.specs.Opens.{Item, IsCell, tree_items, slot_items, end_items, forest_items, items, opened}
 use Rattle.fa_unfold.specs.Opens.{Opens, item_boxes, inside_boxes, all_boxes, tree_boxes, slot_boxes}
 use Rattle.fa_unfold.proofs.InsideBoxes.{both_boxes, tree_has, slots_have}
 use Rattle.fa_folding.proofs.PlacedBoxes.{tree_placed, slots_placed}
 use Rattle.fa_folding.specs.Folded.{taken_parts, left_parts, shape_of, datums_of, parts_of, node_or, each_node}
-use Rattle.fa_folding.specs.Folded.{root_cell, port_nodes, inside_of_part}
+use Rattle.fa_folding.specs.Folded.{root_cell, inside_of_part}
 use Rattle.fa_merge.specs.Reordered.{counted}
-use Rattle.fa_folding.proofs.Lists.{flat_later, two_parts, by_root, AreIn, ArePartsApart, by_ports, first, once_there}
+use Rattle.fa_folding.proofs.Lists.{two_parts, by_root, AreIn, ArePartsApart, by_ports, once_there}
 use Rattle.fa_unfold.proofs.Opening.{slots_opened, trees_opened}
 use Rattle.fa_folding.proofs.Places.{items_apart, none_taken}
+use Rattle.fa_merge.proofs.OtherOrders.{flat_later}
 
 -- Other leaves that are what the references were.
 

@@ -1,20 +1,27 @@
 -- Lists of numbers and of items: in two parts, and in another order.
-use Rattle.std.proofs.Common.{◌≡◌, ◌⊎◌, inl, inr, ℕ, zero, suc, ◌<◌, Bool, true, false, true≢false, nat_eq}
-use Rattle.std.proofs.Common.{if◌then◌else◌, cond, List, [], ◌∷◌, ◌++◌, map, flat_map, refl, sym, ap, ap₂, subst, ◌∙◌}
-use Rattle.std.proofs.Common.{append_assoc, append-nil, arith}
+use Rattle.std.proofs.Common.{◌≡◌, inl, inr, ℕ, Bool, true, false, nat_eq}
+use Rattle.std.proofs.Common.{if◌then◌else◌, cond, List, [], ◌∷◌, ◌++◌, flat_map, filter, refl, sym, ap, ap₂, subst}
+use Rattle.std.proofs.Common.{append_assoc, append-nil}
 use Rattle.std.proofs.lemmas.Bool.{eqb-true, eq-eqb}
-use Rattle.fore_base.specs.Lists.{IsIn, IsDistinct}
-use Rattle.fa_core.specs.Rearranged.{Rearranged, empty, keep, swap, chain}
-use Rattle.fa_core.specs.Ways.{has}
+use Rattle.fore_base.specs.Lists.{IsIn, Every, IsDistinct}
+use Rattle.fa_core.specs.Rearranged.{Rearranged, empty, chain}
 use Rattle.fa_core.specs.Folding.{Ports, taken_at}
-use Rattle.fa_merge.specs.Reordered.{counted}
-use Rattle.fa_core.proofs.Rearranging.{same, equal, back, after, before, both, exchange, middle, flat_map-append}
-use Rattle.fa_core.proofs.Rearranging.{flat_mapped}
+use Rattle.fa_core.proofs.Rearranging.{same, equal, after, both, exchange}
 
-pub flat_later : {X : Type 0} (h : ℕ → List X) (k n : ℕ)
-    → flat_map h (counted (suc k) n) ≡ flat_map (λ j. h (suc j)) (counted k n)
-flat_later h k zero = refl
-flat_later {X} h k (suc n) = ap (λ (z : List X). h (suc k) ++ z) (flat_later h (suc k) n)
+-- behind the same items, what is of the one list is of the other
+pub both_in : (k : ℕ) (xs ys zs : List ℕ) → (IsIn k ys → IsIn k zs) → IsIn k (xs ++ ys) → IsIn k (xs ++ zs)
+both_in k [] ys zs f i = f i
+both_in k (x ∷ xs) ys zs f (inl e) = inl e
+both_in k (x ∷ xs) ys zs f (inr i) = inr (both_in k xs ys zs f i)
+
+-- what holds of each item holds of those that are left
+pub every_filter : {X : Type 0} (q : X → Bool) (P : X → Type 0) (xs : List X) → Every P xs → Every P (filter q xs)
+every_filter q P [] h = tt
+every_filter q P (x ∷ xs) h = here (q x) (every_filter q P xs h.1)
+  where
+    here : (b : Bool) → Every P (filter q xs) → Every P (cond b (x ∷ filter q xs) (filter q xs))
+    here true k = (h.0, k)
+    here false k = k
 
 module _ {X : Type 0} where
   -- (a ++ b) ++ (c ++ e) in the order a, c, b, e

@@ -1,18 +1,17 @@
 -- The kept roots and their numbers.
 use Rattle.std.proofs.Common.{◌≡◌, ◌⊎◌, inl, inr, ℕ, zero, suc, ◌<◌, ◌≤◌, ◌+◌, ◌-◌, Bool, true, false, true≢false}
 use Rattle.std.proofs.Common.{nat_eq, nat_lt, filter, ◌≢◌, if◌then◌else◌, cond, ◌||◌, length, List, [], ◌∷◌, ◌++◌, map}
-use Rattle.std.proofs.Common.{flat_map, refl, sym, ap, ap₂, subst, ◌∙◌, append_assoc, append-nil, arith, slice_get}
+use Rattle.std.proofs.Common.{refl, sym, ap, subst, ◌∙◌, arith, slice_get}
 use Rattle.std.proofs.Common.{Some}
 use Rattle.std.proofs.lemmas.Option.{none-some, same_Some}
 use Rattle.std.proofs.lemmas.Bool.{eqb-true, eq-eqb, ltb-true}
-use Rattle.fore_base.specs.Lists.{IsIn, Every, IsDistinct}
+use Rattle.fore_base.specs.Lists.{IsIn, IsDistinct}
 use Rattle.fore_base.specs.declared.store.Value.{Value}
-use Rattle.fore_base.proofs.ListLemmas.{in_left, in_right}
 use Rattle.fa_core.specs.Dressed.{nth_value}
 use Rattle.fa_core.specs.Folding.{number_without}
-use Rattle.fa_core.specs.Rearranged.{Rearranged, often, empty, keep, swap, chain}
+use Rattle.fa_core.specs.Rearranged.{Rearranged, often, empty, keep, chain}
 use Rattle.fa_core.specs.Ways.{has}
-use Rattle.fa_core.proofs.Rearranging.{same, back, after, before, middle}
+use Rattle.fa_core.proofs.Rearranging.{back, before, middle}
 use Rattle.fa_facts.proofs.Alike.{alike}
 use Rattle.fa_merge.specs.Reordered.{counted}
 use Rattle.fa_folding.specs.Made.{kept_of}

@@ -1,17 +1,15 @@
 -- The roots of a part, and the new numbers of roots.
-use Rattle.std.proofs.Common.{◌≡◌, ◌⊎◌, inl, inr, ℕ, zero, suc, ◌<◌, ◌≤◌, ◌+◌, ◌-◌, Bool, true, false, true≢false}
-use Rattle.std.proofs.Common.{nat_eq, nat_lt, if◌then◌else◌, cond, ◌||◌, length, List, [], ◌∷◌, ◌++◌, map, filter}
-use Rattle.std.proofs.Common.{flat_map, refl, sym, ap, ap₂, subst, ◌∙◌, append_assoc, append-nil, arith}
-use Rattle.std.proofs.lemmas.Bool.{eqb-true, eq-eqb, ltb-true, ltb-false, lt-ltb}
-use Rattle.fore_base.specs.Lists.{IsIn, Every, IsDistinct}
+use Rattle.std.proofs.Common.{◌≡◌, ◌⊎◌, inl, inr, ℕ, suc, ◌+◌, ◌-◌, Bool, true, false, true≢false}
+use Rattle.std.proofs.Common.{nat_eq, nat_lt, cond, ◌||◌, length, List, [], ◌∷◌, ◌++◌, map, filter}
+use Rattle.std.proofs.Common.{refl, sym, ap, subst, ◌∙◌, append_assoc, append-nil, arith}
+use Rattle.std.proofs.lemmas.Bool.{eqb-true, eq-eqb, ltb-true, ltb-false}
+use Rattle.fore_base.specs.Lists.{IsIn, IsDistinct}
 use Rattle.fore_base.specs.declared.store.Value.{Value}
 use Rattle.fore_base.proofs.ListLemmas.{in_left, in_right}
 use Rattle.fa_core.specs.Dressed.{nth_value}
-use Rattle.fa_core.specs.Folding.{Placing, all_placed, is_placed, place_now, position, number_without}
+use Rattle.fa_core.specs.Folding.{Placing, all_placed, is_placed, place_now, position}
 use Rattle.fa_core.specs.Ways.{has}
 use Rattle.fa_back.proofs.RootMarks.{has_in}
-use Rattle.fa_merge.specs.Reordered.{counted}
-use Rattle.fa_folding.proofs.Lists.{eq_self, eq_not}
 
 -- Roots that are reached.
 

@@ -1,23 +1,20 @@
 -- Slots that are taken and slots that are left: in dressed trees and in trees.
-use Rattle.std.proofs.Common.{◌≡◌, ◌⊎◌, inl, inr, ℕ, zero, suc, Bool, true, false, not, nat_eq, if◌then◌else◌, cond}
-use Rattle.std.proofs.Common.{List, [], ◌∷◌, ◌++◌, map, flat_map, filter, refl, sym, ap, ap₂, subst, ◌∙◌, append_assoc}
-use Rattle.std.proofs.Common.{append-nil}
-use Rattle.fore_base.specs.Lists.{IsIn, Every}
+use Rattle.std.proofs.Common.{◌≡◌, ℕ, Bool, true, false, not, cond}
+use Rattle.std.proofs.Common.{List, [], ◌∷◌, ◌++◌, map, flat_map, refl, ap, ap₂, append_assoc}
 use Rattle.fore_base.specs.declared.store.Datum.{Datum}
 use Rattle.fore_base.specs.declared.store.Value.{Value}
 use Rattle.ta_core.specs.declared.symbol.Slot.{Slot}
 use Rattle.ta_core.specs.declared.symbol.Slot.TheVariants.{Field, Link, Hook}
-use Rattle.ta_core.specs.declared.symbol.Symbol.{Symbol}
 use Rattle.ta_core.specs.declared.symbol.Symbol.TheVariants.{Cell as CellSymbol}
-use Rattle.ta_core.specs.declared.tree.Tree.{Tree, roll-Tree, out-Tree, out-roll-Tree}
-use Rattle.fa_core.specs.Dressed.{Node, Parts, End, Nodes, node, no_parts, field, link, hook, under, leaf, no_nodes}
-use Rattle.fa_core.specs.Dressed.{more, end_value, SeenField, SeenLink, SeenHook, refs_of, end_refs}
-use Rattle.fa_core.specs.Folding.{places, symbol_slots, top_places, cell_of, taken, left, is_one_of}
+use Rattle.ta_core.specs.declared.tree.Tree.{Tree, roll-Tree, out-roll-Tree}
+use Rattle.fa_core.specs.Dressed.{Parts, node, no_parts, field, link, hook}
+use Rattle.fa_core.specs.Dressed.{end_value, SeenField, SeenLink, SeenHook}
+use Rattle.fa_core.specs.Folding.{places, top_places, cell_of, taken, left}
 use Rattle.fa_core.specs.Member.{bare, bare_parts, bare_end, slots_of}
-use Rattle.fa_core.specs.Rearranged.{Rearranged, empty, keep, swap, chain}
+use Rattle.fa_core.specs.Rearranged.{Rearranged, empty, keep, chain}
 use Rattle.fa_core.specs.Ways.{has}
-use Rattle.fa_core.proofs.Rearranging.{same, equal, back, after, before, both, exchange, middle}
-use Rattle.fa_unfold.specs.Opens.{Item, IsCell, HasSlot, slot_items, end_items}
+use Rattle.fa_core.proofs.Rearranging.{after, exchange}
+use Rattle.fa_unfold.specs.Opens.{Item, HasSlot, slot_items, end_items}
 use Rattle.fa_folding.specs.Folded.{taken_parts, left_parts}
 
 -- the slots of a cell, each with its child

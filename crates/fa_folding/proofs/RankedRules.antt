@@ -1,5 +1,5 @@
 -- Automata with further rules at a state of their own keep their ranges.
-use Rattle.std.proofs.Common.{◌≡◌, ℕ, ◌<◌, ◌+◌, List, [], ◌∷◌, ◌++◌, refl, Option, Some, None, arith}
+use Rattle.std.proofs.Common.{ℕ, ◌+◌, List, refl, Option, Some, None, arith}
 use Rattle.fore_base.specs.Lists.{Every}
 use Rattle.fore_base.proofs.ListLemmas.{every_append}
 use Rattle.ta_core.specs.Auto.{Automaton, IsRanked, IsRankedRule}

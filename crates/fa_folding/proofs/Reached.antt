@@ -1,18 +1,18 @@
 -- What the taken and the left slots of a dressed tree refer to; so the references of a part agree with its inside.
-use Rattle.std.proofs.Common.{◌≡◌, ◌⊎◌, inl, inr, ℕ, zero, suc, ◌<◌, Bool, true, false, true≢false, cond, List, [], ◌∷◌}
-use Rattle.std.proofs.Common.{◌++◌, map, flat_map, refl, sym, ap, ap₂, subst, ◌∙◌, append-nil, not-suc-le-zero}
+use Rattle.std.proofs.Common.{◌≡◌, inl, inr, ℕ, zero, suc, ◌<◌, Bool, true, false, true≢false, cond, List, [], ◌∷◌}
+use Rattle.std.proofs.Common.{◌++◌, map, refl, sym, ap, ap₂, subst, ◌∙◌, append-nil, not-suc-le-zero}
 use Rattle.std.proofs.Common.{le_of_suc-le-suc}
-use Rattle.fore_base.specs.Lists.{IsIn, Every, IsDistinct}
+use Rattle.fore_base.specs.Lists.{IsIn, IsDistinct}
 use Rattle.fore_base.specs.declared.store.Value.{Value}
 use Rattle.fore_base.specs.declared.store.Value.TheVariants.{Cell}
-use Rattle.fore_base.proofs.ListLemmas.{in_left, in_right, in_every, in_append}
+use Rattle.fore_base.proofs.ListLemmas.{in_left, in_right, in_every}
 use Rattle.ta_core.specs.declared.symbol.Slot.{Slot}
 use Rattle.ta_core.specs.declared.tree.Tree.{Tree}
 use Rattle.fa_core.specs.declared.forest.Target.{Target}
 use Rattle.fa_core.specs.Canonical.{refs_at}
 use Rattle.fa_core.specs.Choices.{bares, count}
-use Rattle.fa_core.specs.Dressed.{Node, Parts, End, Nodes, node, no_parts, field, link, hook, under, leaf, no_nodes}
-use Rattle.fa_core.specs.Dressed.{more, number, refs, refs_of, end_refs, nth_value, value_in, roots_of, with_ports}
+use Rattle.fa_core.specs.Dressed.{Node, Parts, Nodes, node, no_parts, field, link, hook, no_nodes}
+use Rattle.fa_core.specs.Dressed.{more, refs, refs_of, end_refs, nth_value, roots_of, with_ports}
 use Rattle.fa_core.specs.Folding.{Ports, Placing, position, taken, left, top_places, place_refs, places_at, port_refs}
 use Rattle.fa_core.specs.Folding.{left_refs, taken_at}
 use Rattle.fa_core.specs.Member.{bare, bare_end}
@@ -22,13 +22,14 @@ use Rattle.fa_core.specs.Ways.{has, once, ways}
 use Rattle.fa_core.proofs.Numbers.{in_once}
 use Rattle.fa_core.proofs.Placing.{number_placed}
 use Rattle.fa_core.proofs.WaysOf.{tree_roots, end_roots}
-use Rattle.fa_folding.specs.Folded.{taken_parts, left_parts, parts_of, node_or, each_node, root_cell, port_nodes}
+use Rattle.fa_folding.specs.Folded.{taken_parts, left_parts, parts_of, node_or, each_node, root_cell}
 use Rattle.fa_folding.specs.Folded.{inside_of_part}
 use Rattle.fa_folding.proofs.Insides.{numbered_at}
 use Rattle.fa_folding.proofs.Law.{Agrees, AsMany, PortsAgree, InnerAgree, port_cells}
 use Rattle.fa_back.proofs.RootMarks.{has_in, in_has}
 use Rattle.fa_folding.proofs.Orders.{is_visited, is_closed, are_further, same_end, at_position}
 use Rattle.fa_folding.proofs.Places.{part_places, top_places_are, taken_places, left_places}
+use Rattle.fa_folding.proofs.Lists.{both_in}
 
 places_refer : (ps : Parts) → place_refs (part_places ps) ≡ refs_of ps
 places_refer no_parts = refl
@@ -141,11 +142,7 @@ module _ (d : Nodes) (ports : Ports) (shapes inner order : List ℕ) (many : AsM
           one : (b : Bool) → (IsIn k (refs_of (taken_parts fs ps)) → IsIn k (refs_of ps))
               → IsIn k (refs_of (cond b (field g e (taken_parts fs ps)) (taken_parts fs ps)))
               → IsIn k (end_refs e ++ refs_of ps)
-          one true r i = elim (in_append k (end_refs e) (refs_of (taken_parts fs ps)) i) [
-            | inl j ↦ in_left k
-                (end_refs e) (refs_of ps) j
-            | inr j ↦ in_right k (end_refs e) (refs_of ps) (r j)
-          ]
+          one true r i = both_in k (end_refs e) (refs_of (taken_parts fs ps)) (refs_of ps) r i
           one false r i = in_right k (end_refs e) (refs_of ps) (r i)
       these (link b inside e ps) i = in_right k (end_refs e) (refs_of ps) (these ps i)
       these (hook b inside ps) i = these ps i

@@ -1,5 +1,5 @@
 -- Runs below a cell, slot by slot: slots with the states of their children, and with their trees.
-use Rattle.std.proofs.Common.{◌≡◌, ℕ, suc, ◌<◌, ◌+◌, Bool, true, false, true≢false, cond, length, List, [], ◌∷◌, ◌++◌}
+use Rattle.std.proofs.Common.{◌≡◌, ℕ, suc, ◌+◌, Bool, true, false, true≢false, cond, length, List, [], ◌∷◌, ◌++◌}
 use Rattle.std.proofs.Common.{map, filter, flat_map, refl, sym, ap, ap₂, subst, ◌∙◌, arith}
 use Rattle.fore_base.specs.Lists.{Every, Paired}
 use Rattle.ta_core.specs.Arity.{child_slots}

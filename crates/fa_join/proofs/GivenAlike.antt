@@ -17,8 +17,9 @@ use Rattle.fa_core.specs.declared.faces.BoxFace.{BoxFace}
 use Rattle.fa_core.specs.declared.faces.Face.{Face}
 use Rattle.fa_core.specs.declared.forest.Forest.{Forest}
 use Rattle.fa_core.proofs.FilledKept.{choice_with}
+use Rattle.fa_core.proofs.Rearranging.{long_same}
 use Rattle.fa_merge.proofs.Named.{choice_long, refers_below}
-use Rattle.fa_merge.proofs.OtherOrders.{same_length}
+use Rattle.fa_merge.proofs.MergedCut.{choice_over}
 
 -- the trees have one symbol at the top
 abbrev pub SameTop : Tree → Tree → Type 0
@@ -66,7 +67,7 @@ top_counts face tops s t above top h =
     subst (λ (y : Symbol). Every (IsFilledSpot face tops) (spots_at face.boxes y
     (map (with_spots face.boxes) x.children) above)) top.2
     (subst (λ (z : List Spot). Every (IsFilledSpot face tops) z) e h) in
-    same_length g.0.once ∙ length-append (flat_map (covers face.boxes) top.1) above
+    long_same g.0.once ∙ length-append (flat_map (covers face.boxes) top.1) above
 
 -- so two cells with one symbol are given as many
 given_counts : (face : Face) (tops other : List ℕ) (s : ℕ) (t u : Tree) (above below : List ℕ) → IsTopped s t
@@ -106,14 +107,6 @@ tops_set [] r t u e s = tt
 tops_set (x ∷ ts) zero t u e s = (ap (λ (z : Tree). (out-Tree z).symbol) (same_Some x t e) ∙ s, tops_same ts)
 tops_set (x ∷ ts) (suc r) t u e s = (refl, tops_set ts r t u e s)
 
-pub same_choice : (xs ys : List Automaton) → Paired HasSameLanguage xs ys → (ts : List Tree) → Choice xs ts
-    → Choice ys ts
-same_choice [] [] h ts k = k
-same_choice [] (y ∷ ys) h ts k = absurd h
-same_choice (x ∷ xs) [] h ts k = absurd h
-same_choice (x ∷ xs) (y ∷ ys) h [] k = absurd k
-same_choice (x ∷ xs) (y ∷ ys) h (t ∷ ts) k = ((h.0 t).0 k.0, same_choice xs ys h.1 ts k.1)
-
 choice_set : (a b : Automaton) (r : ℕ) (xs ys : List Automaton) → PairedBut HasSameLanguage r a b xs ys
     → (ts : List Tree) → Choice xs ts → (u : Tree) → InLanguage b u → Choice ys (slice_set ts r u)
 choice_set a b r [] ys h ts k u l = absurd h
@@ -121,7 +114,7 @@ choice_set a b r (x ∷ xs) [] h ts k u l = absurd h
 choice_set a b zero (x ∷ xs) (y ∷ ys) h [] k u l = absurd k
 choice_set a b (suc r) (x ∷ xs) (y ∷ ys) h [] k u l = absurd k
 choice_set a b zero (x ∷ xs) (y ∷ ys) h (t ∷ ts) k u l =
-    (subst (λ (z : Automaton). InLanguage z u) (sym h.1) l, same_choice xs ys h.2 ts k.1)
+    (subst (λ (z : Automaton). InLanguage z u) (sym h.1) l, choice_over xs ys ts h.2 k.1)
 choice_set a b (suc r) (x ∷ xs) (y ∷ ys) h (t ∷ ts) k u l = ((h.0 t).0 k.0, choice_set a b r xs ys h.1 ts k.1 u l)
 
 module _ (face : Face) (F G : Forest) (r : ℕ) (a b : Automaton) (there : slice_get F.autos r ≡ Some a)

@@ -22,6 +22,7 @@ use Rattle.fa_core.specs.declared.forest.Target.{Target}
 use Rattle.fa_sound.specs.Components.{component_at}
 use Rattle.fa_sound.proofs.ComponentLemmas.{component_got}
 use Rattle.fa_merge.proofs.PlacedForests.{component_has}
+use Rattle.fa_merge.proofs.MergedCut.{choice_over}
 use Rattle.fa_split.specs.Divided.{HasVarsOf}
 use Rattle.fa_split.specs.Giving.{SymbolGives}
 use Rattle.fa_split.specs.Split.{CanSplit, top_rule, child_state}
@@ -33,7 +34,7 @@ use Rattle.fa_join.specs.Joined.{Joins}
 use Rattle.fa_join.specs.inner.Differing.{DifferAtRoot}
 use Rattle.fa_join.specs.inner.Joining.{JoinsBelow, joined, joined_at}
 use Rattle.fa_join.proofs.JoinedAutos.{joined_union, joined_symbols, joined_one}
-use Rattle.fa_join.proofs.GivenAlike.{SameTop, give_alike, same_choice}
+use Rattle.fa_join.proofs.GivenAlike.{SameTop, give_alike}
 use Rattle.fa_join.proofs.JoinedSigned.{joined_plain, joined_signed, same_tops}
 
 -- Dressed forests, tree by tree.
@@ -101,7 +102,7 @@ module _ (a b c : Automaton) (union : IsUnion a b c) where
   choice_from (suc r) (x ∷ xs) (y ∷ ys) h [] k = absurd k
   choice_from zero (x ∷ xs) (y ∷ ys) h (t ∷ ts) k = elim ((union t).0 k.0) [
     | inl l ↦ inl (subst (λ (z : Automaton). InLanguage z t) (sym h.0) l, k.1)
-    | inr l ↦ inr (subst (λ (z : Automaton). InLanguage z t) (sym h.1) l, same_choice xs ys h.2 ts k.1)
+    | inr l ↦ inr (subst (λ (z : Automaton). InLanguage z t) (sym h.1) l, choice_over xs ys ts h.2 k.1)
   ]
   choice_from (suc r) (x ∷ xs) (y ∷ ys) h (t ∷ ts) k = elim (choice_from r xs ys h.1 ts k.1) [
     | inl l ↦ inl (k.0, l)

@@ -18,7 +18,7 @@ use Rattle.fa_core.specs.declared.faces.BoxFace.{BoxFace}
 use Rattle.fa_core.specs.declared.signature.Below.{Below}
 use Rattle.fa_core.specs.declared.signature.RefMark.{RefMark}
 use Rattle.fa_core.proofs.Numbers.{has_right, has_once, or_left}
-use Rattle.fa_core.proofs.Rearranging.{flat_map-append}
+use Rattle.fa_core.proofs.Rearranging.{flat_map-append, long_same}
 use Rattle.fa_core.proofs.Sorting.{ordered}
 use Rattle.fa_core.proofs.WayParts.{way_roots}
 use Rattle.fa_back.proofs.RootMarks.{has_in}
@@ -26,7 +26,6 @@ use Rattle.fa_sound.specs.inner.Owned.{fields_of_mark}
 use Rattle.fa_sound.proofs.Between.{AreLeafs}
 use Rattle.fa_sound.proofs.Given.{found_map, given_tree}
 use Rattle.fa_sound.proofs.Mixed.{leaf_signature}
-use Rattle.fa_merge.proofs.OtherOrders.{same_length}
 use Rattle.fa_split.specs.Giving.{SlotGives}
 use Rattle.fa_split.proofs.EdgeMarks.{AddsSame, EdgesSame, no_edges, an_edge, cell_kept, field_same, link_same}
 use Rattle.fa_join.proofs.GivenAlike.{GiveAlike, gift}
@@ -91,8 +90,8 @@ module _ (bs : List BoxFace) where
         ∙ ap (λ (b : Bool). cond b (Some (cell_mark bs es (cell_roots es) n)) None) there
 
     gift_told : length (gift bs n t) ≡ length (provided_at bs n es)
-    gift_told = same_length (given_tree bs t n) ∙ ap (λ (o : Option RefMark). length (fields_of_mark o)) marked
-        ∙ sym (same_length (ordered (provided_at bs n es)))
+    gift_told = long_same (given_tree bs t n) ∙ ap (λ (o : Option RefMark). length (fields_of_mark o)) marked
+        ∙ sym (long_same (ordered (provided_at bs n es)))
 
     refers : RefersTo t n
     refers = has_in n (way_roots (ways t)) (here (has n (way_roots (ways t))) refl)

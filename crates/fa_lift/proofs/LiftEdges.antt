@@ -19,7 +19,7 @@ use Rattle.fa_core.proofs.Dressing.{cell_top}
 use Rattle.fa_core.proofs.WayParts.{collect, edge_ways, pair_roots, collect_edges, cell_ways, HaveEdges, branch_ways}
 use Rattle.fa_core.proofs.WaysOf.{rolled_ways}
 use Rattle.fa_lift.specs.Lift.{fields_given}
-use Rattle.fa_lift.proofs.LiftSteps.{in_has}
+use Rattle.fa_back.proofs.RootMarks.{in_has}
 
 abbrev mutual
   -- some edge of the tree ends at a leaf that refers to root r, and gives it field f

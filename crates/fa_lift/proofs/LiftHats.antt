@@ -17,10 +17,10 @@ use Rattle.fa_core.specs.Dressed.{Node, Parts, End, Nodes, node, no_parts, field
 use Rattle.fa_core.specs.Member.{bare_parts, bare_end, slots_of}
 use Rattle.fa_core.proofs.Dressing.{cell_is_no_leaf}
 use Rattle.fa_core.proofs.NodeRuns.{NodeRun, PartsRun, EndRun, parts_bare, end_bare, bare_each, bare_of_end}
+use Rattle.fa_core.proofs.NodeSpots.{one_leaf}
 use Rattle.fa_split.specs.Split.{end_at}
 use Rattle.fa_split.proofs.ChosenTrees.{leaf_arity}
 use Rattle.fa_split.proofs.FreshStates.{stay, stay_each, widen, widen_each}
-use Rattle.fa_split.proofs.Places.{one_leaf}
 use Rattle.fa_lift.specs.Lift.{hat_children, hat_rule, hat_rules, hole, child_gives}
 use Rattle.fa_lift.proofs.LiftEdges.{HasEdge, HasEdgeIn, HasEdgeAt}
 use Rattle.fa_lift.proofs.LiftHoles.{CutNode, CutParts, CutEnd, in_cell, at_field, at_link, on_field, on_link}

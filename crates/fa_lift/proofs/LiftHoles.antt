@@ -16,13 +16,12 @@ use Rattle.fa_core.specs.Rearranged.{Rearranged, often}
 use Rattle.fa_core.specs.References.{AllBelow, IsOnce, IsNever}
 use Rattle.fa_core.proofs.Counts.{often_same, often_both, once_often, often_below, never_below, never_left, never_right}
 use Rattle.fa_core.proofs.Counts.{below_left, below_right, below_wider}
-use Rattle.fa_core.proofs.Rearranging.{same, back, after, before, middle, exchange}
+use Rattle.fa_core.proofs.Rearranging.{same, back, after, before, middle, exchange, every_moved}
 use Rattle.fa_core.specs.Rearranged.{chain}
 use Rattle.fa_back.specs.Reached.{node_at}
 use Rattle.fa_merge.specs.inner.Grafting.{plug, plug_parts, plug_end, plug_all, with_last}
 use Rattle.fa_merge.proofs.CutTrees.{plug_never_tree, plug_never_parts, plug_never_end}
 use Rattle.fa_merge.proofs.GraftedCells.{graft_last}
-use Rattle.fa_merge.proofs.OtherOrders.{kept_every}
 use Rattle.fa_split.specs.Split.{set_node}
 use Rattle.fa_split.proofs.Places.{set_count}
 
@@ -200,7 +199,7 @@ module _ (m w k : Node) (r : ℕ) (d : Nodes) (cut : CutNode (count d) m w k) (a
   cut_all = all_cut_refs u m w k cut r d at
 
   wide : AllBelow (suc u) (all_refs ns ++ refs m)
-  wide = kept_every (λ q. q < suc u) (back cut_all) (
+  wide = every_moved (λ q. q < suc u) (back cut_all) (
     omega arith,
     below_wider u (suc u) (omega arith) (all_refs d) below,
   )

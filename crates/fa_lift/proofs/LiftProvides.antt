@@ -15,11 +15,11 @@ use Rattle.fa_core.specs.declared.forest.Forest.{Forest}
 use Rattle.fa_core.specs.Dressed.{Node}
 use Rattle.fa_core.specs.Filled.{HasSignatures}
 use Rattle.fa_core.specs.Member.{bare}
-use Rattle.fa_core.specs.Rearranged.{Rearranged, empty, keep, swap, chain}
 use Rattle.fa_core.specs.Ways.{Way, ways, to_root, given, roots_met, mark, signature}
 use Rattle.fa_core.proofs.Numbers.{has_once}
 use Rattle.fa_core.proofs.Rearranging.{back}
 use Rattle.fa_core.proofs.Sorting.{ordered}
+use Rattle.fa_core.proofs.Permuted.{in_rearranged}
 use Rattle.fa_sound.specs.Components.{component_at}
 use Rattle.fa_sound.specs.Soundness.{IsStateOf}
 use Rattle.fa_sound.proofs.ComponentLemmas.{component_got}
@@ -27,16 +27,7 @@ use Rattle.fa_split.proofs.RunPlaces.{at_index}
 use Rattle.fa_lift.specs.Lift.{fields_given, Provides}
 use Rattle.fa_lift.specs.inner.Lifting.{MarksProvide}
 use Rattle.fa_lift.proofs.LiftEdges.{HasEdge, edge_of}
-use Rattle.fa_lift.proofs.LiftSteps.{has_in, in_has}
-
-in_moved : (k : ℕ) {xs ys : List ℕ} → Rearranged xs ys → IsIn k xs → IsIn k ys
-in_moved k empty i = i
-in_moved k (keep x r) (inl e) = inl e
-in_moved k (keep x r) (inr i) = inr (in_moved k r i)
-in_moved k (swap x y xs) (inl e) = inr (inl e)
-in_moved k (swap x y xs) (inr (inl e)) = inl e
-in_moved k (swap x y xs) (inr (inr i)) = inr (inr i)
-in_moved k (chain a b) i = in_moved k b (in_moved k a i)
+use Rattle.fa_back.proofs.RootMarks.{has_in, in_has}
 
 module _ (bs : List BoxFace) (r f : ℕ) where
   -- a root to which some way gives a field is met
@@ -61,7 +52,7 @@ module _ (bs : List BoxFace) (r f : ℕ) where
         (has_once r (map (λ (w : Way). w.root) (ways t))
         ∙ in_has r (map (λ (w : Way). w.root) (ways t)) (met (ways t) h))),
     refl,
-    in_moved f (ordered (fields_given bs r t)) h,
+    in_rearranged f (ordered (fields_given bs r t)) h,
   )
 
   -- and a mark that says so is right
@@ -70,7 +61,7 @@ module _ (bs : List BoxFace) (r f : ℕ) where
       let k = in_mapped (mark bs (ways t)) m (roots_met (ways t)) i in
       let z : k.0 ≡ r = sym (ap (λ (v : RefMark). v.root) k.2) ∙ e in
       let y : IsIn f (mark bs (ways t) k.0).provided = subst (λ (v : RefMark). IsIn f v.provided) k.2 h in
-      subst (λ (n : ℕ). IsIn f (fields_given bs n t)) z (in_moved f (back (ordered (fields_given bs k.0 t))) y)
+      subst (λ (n : ℕ). IsIn f (fields_given bs n t)) z (in_rearranged f (back (ordered (fields_given bs k.0 t))) y)
 
   -- where one tree of the component has such an edge, each has
   pub all_edged : (a : Automaton) → HasSignatures bs a → Provides bs r f a → (n : Node) → InLanguage a (bare n)

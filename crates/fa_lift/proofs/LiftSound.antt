@@ -1,6 +1,7 @@
 -- The forests with the cell of an edge lifted are sound.
 use Rattle.std.proofs.Common.{◌≡◌, inl, inr, ℕ, suc, ◌<◌, ◌≤◌, ◌+◌, length, List, [], ◌∷◌, map, false, true≢false}
 use Rattle.std.proofs.Common.{refl, sym, ap, subst, ◌∙◌, slice_set, length-set, length-append, arith}
+use Rattle.std.proofs.lemmas.Option.{slice_get_within}
 use Rattle.fore_base.specs.Lists.{IsIn, Every}
 use Rattle.fore_base.proofs.ListLemmas.{every_in, in_every, every_append, in_mapped, place_of}
 use Rattle.ta_core.specs.Arity.{arity}
@@ -24,11 +25,10 @@ use Rattle.fa_core.proofs.Counts.{below_left, below_wider}
 use Rattle.fa_core.proofs.Dressing.{leaf_top}
 use Rattle.fa_core.proofs.FilledKept.{IsFormedTree, filled_kept, formed_by}
 use Rattle.fa_core.proofs.NodeRuns.{NodeRun, node_bare, bare_node}
-use Rattle.fa_core.proofs.Rearranging.{back}
+use Rattle.fa_core.proofs.Rearranging.{back, every_moved}
 use Rattle.fa_core.proofs.WaysOf.{tree_roots}
 use Rattle.fa_sound.specs.Components.{component_at}
 use Rattle.fa_sound.proofs.ComponentLemmas.{item_component}
-use Rattle.fa_merge.proofs.OtherOrders.{got, kept_every}
 use Rattle.fa_merge.proofs.PlacedForests.{component_has, node_topped}
 use Rattle.fa_signatures.specs.CutPieces.{IsPieceBy}
 use Rattle.fa_split.proofs.HollowEnds.{run_end, tree_is_node}
@@ -234,7 +234,7 @@ module _ (face : Face) (F : Forest) (r f t : ℕ) (ranked : Every IsRanked F.aut
     old_formed = in_every (λ b. (u : Tree) → InLanguage b u → IsFormedTree (suc N) u) F.autos (λ b i u w.
         let k = place_of F.autos b i in
         let e : b ≡ component_at F.autos k.0 = item_component F.autos k.0 b k.1 in
-        let l : k.0 < N = got F.autos k.0 b k.1 in
+        let l : k.0 < N = slice_get_within F.autos k.0 b k.1 in
         let v : InLanguage (component_at F.autos k.0) u = subst (λ (z : Automaton). InLanguage z u) e w in
         let n = tree_is_node face F sound.well_formed.filled sound.full ranked k.0 l u v in
         subst (λ (z : Tree). IsFormedTree (suc N) z) n.1
@@ -252,7 +252,7 @@ module _ (face : Face) (F : Forest) (r f t : ℕ) (ranked : Every IsRanked F.aut
         subst (λ (z : Tree). IsFormedTree (suc N) z) k.1
         (formed_node (suc N) k.0
         (below_left (suc N) (refs k.0) (refs m.0)
-        (kept_every (λ q. q < suc N) (back (cut_refs N m.0 b.2))
+        (every_moved (λ q. q < suc N) (back (cut_refs N m.0 b.2))
         (omega arith, below_wider N (suc N) (omega arith) (refs b.0) b.1))))
 
     owner_formed : (u : Tree) → InLanguage O u → IsFormedTree (suc N) u

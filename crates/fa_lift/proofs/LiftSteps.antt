@@ -1,7 +1,6 @@
 -- Steps of the searches for the edge: one more rule, one more mark.
-use Rattle.std.proofs.Common.{◌≡◌, inl, inr, ℕ, Bool, true, false, true≢false, nat_eq, ◌||◌, List, [], ◌∷◌, ◌++◌}
+use Rattle.std.proofs.Common.{◌≡◌, inl, inr, ℕ, true, List, [], ◌∷◌, ◌++◌}
 use Rattle.std.proofs.Common.{◌↔◌, IsTrue, refl, sym, ap, subst, ◌∙◌}
-use Rattle.std.proofs.lemmas.Bool.{eqb-true, eq-eqb}
 use Rattle.fore_base.specs.Lists.{IsIn}
 use Rattle.fore_base.proofs.ListLemmas.{in_push}
 use Rattle.ta_core.specs.declared.auto.Rule.{Rule}
@@ -10,24 +9,7 @@ use Rattle.fa_core.specs.declared.signature.RefMark.{RefMark}
 use Rattle.fa_core.specs.Ways.{has}
 use Rattle.fa_lift.specs.Lift.{MayRefer}
 use Rattle.fa_lift.specs.inner.Lifting.{MarksProvide}
-
--- a number that is found in a list stands in it, and the other way
-pub has_in : (k : ℕ) (xs : List ℕ) → has k xs ≡ true → IsIn k xs
-has_in k [] e = absurd (true≢false (sym e))
-has_in k (x ∷ xs) e = here (nat_eq k x) refl e (has_in k xs)
-  where
-    here : (b : Bool) → nat_eq k x ≡ b → (b || has k xs) ≡ true → (has k xs ≡ true → IsIn k xs) → IsIn k (x ∷ xs)
-    here true z h g = inl (eqb-true k x z)
-    here false z h g = inr (g h)
-
-pub in_has : (k : ℕ) (xs : List ℕ) → IsIn k xs → has k xs ≡ true
-in_has k [] i = absurd i
-in_has k (x ∷ xs) i = here (nat_eq k x) refl i (in_has k xs)
-  where
-    here : (b : Bool) → nat_eq k x ≡ b → IsIn k (x ∷ xs) → (IsIn k xs → has k xs ≡ true) → (b || has k xs) ≡ true
-    here true e i g = refl
-    here false e (inl z) g = absurd (true≢false (sym (eq-eqb k x z) ∙ e))
-    here false e (inr j) g = g j
+use Rattle.fa_back.proofs.RootMarks.{has_in, in_has}
 
 -- Rules that are a reference.
 

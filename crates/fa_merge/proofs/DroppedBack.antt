@@ -35,7 +35,7 @@ use Rattle.fa_core.specs.Placed.{placed_all}
 use Rattle.fa_core.specs.Rearranged.{Rearranged, keep, chain}
 use Rattle.fa_core.proofs.Permuted.{in_rearranged}
 use Rattle.fa_core.proofs.Given.{root_numbers}
-use Rattle.fa_core.proofs.Rearranging.{back, both, flat_map-append}
+use Rattle.fa_core.proofs.Rearranging.{back, both, flat_map-append, every_moved}
 use Rattle.fa_merge.specs.Dropped.{drop_leaf, without_node, dropped, AreLeaves, IsFlatRoot, IsIdle, IsCut, Restores}
 use Rattle.fa_back.specs.Reached.{node_at}
 use Rattle.fa_merge.specs.Dropped.{without_cell}
@@ -44,7 +44,7 @@ use Rattle.fa_merge.proofs.DroppedFacts.{insides_in, insides_without, leaves_dro
 use Rattle.fa_merge.proofs.DroppedInsides.{dangle_fact, dangle_self, NoFact, HaveInputs, table_inputs}
 use Rattle.fa_back.proofs.FactParts.{fact_cell, fact_value}
 use Rattle.fa_merge.proofs.FieldFacts.{no_list, first_same, later_same, unmap, split_map, is_head, fact_field, IsOwn}
-use Rattle.fa_merge.proofs.FieldFacts.{every_there, in_order, fact_count}
+use Rattle.fa_merge.proofs.FieldFacts.{in_order, fact_count}
 use Rattle.fa_back.proofs.StoreLaws.{has_cell, same_numbers as heads_numbered}
 
 -- The cells of a store.
@@ -273,7 +273,7 @@ module _ (T : List BoxDef) (face : Face) (F G : Forest) (r : ℕ) (table : IsTab
 
     ordered : (points c 0 (map fact_value fields_back.0) ≡ fields_back.0)
         × (length fields_back.0 ≡ length (targets_of hs s))
-    ordered = in_order c 0 fields_back.0 (targets_of hs s) (every_there (IsOwn c) fields_back.1 (flat_own vs c ps flat))
+    ordered = in_order c 0 fields_back.0 (targets_of hs s) (every_moved (IsOwn c) fields_back.1 (flat_own vs c ps flat))
         fields_back.2
 
     abbrev root : CellRec
@@ -334,7 +334,7 @@ module _ (T : List BoxDef) (face : Face) (F G : Forest) (r : ℕ) (table : IsTab
 
     own_fields : Every (NamesCell (root ∷ ks)) (map fact_value fields_back.0)
     own_fields = values_of (NamesCell (root ∷ ks)) fields_back.0
-        (every_there (λ (x : Fact). NamesCell (root ∷ ks) (fact_value x)) fields_back.1
+        (every_moved (λ (x : Fact). NamesCell (root ∷ ks) (fact_value x)) fields_back.1
         (leaf_values (NamesCell (root ∷ ks)) vs c ps flat
         (λ t. name_back c root ks refl (value_in vs t) (target_named t))))
 

@@ -25,10 +25,11 @@ use Rattle.fa_core.specs.Dressed.{port_facts, with_ports, end_value, roots_of}
 use Rattle.fa_core.specs.Filled.{IsFilled, IsFilledSpot, Spot, TreesFilled, covers, fields_of, given_at, spots}
 use Rattle.fa_core.specs.Member.{OfForest, bare, slots_of}
 use Rattle.fa_core.specs.Placed.{placed, placed_parts, placed_end, placed_all}
-use Rattle.fa_core.specs.Rearranged.{Rearranged, empty, keep, swap, chain}
+use Rattle.fa_core.specs.Rearranged.{Rearranged}
 use Rattle.fa_core.specs.declared.forest.Target.{Target}
 use Rattle.fa_core.proofs.Dressing.{choice_of}
 use Rattle.fa_core.proofs.NodeSpots.{node_spots, spots_are}
+use Rattle.fa_core.proofs.Rearranging.{long_same}
 use Rattle.fa_facts.specs.Fields.{fields_at, fields_owed}
 use Rattle.fa_facts.proofs.FullFacts.{fields_full}
 use Rattle.fa_back.specs.Reached.{node_at}
@@ -244,12 +245,6 @@ counted K h vs (suc r) (more m ns) n e =
     let k = counted K h vs r ns n e in
     omega (arith, a, b, k)
 
-moved_length : {xs ys : List ℕ} → Rearranged xs ys → length xs ≡ length ys
-moved_length empty = refl
-moved_length (keep x r) = ap (λ (n : ℕ). suc n) (moved_length r)
-moved_length (swap x y xs) = refl
-moved_length (chain a b) = moved_length a ∙ moved_length b
-
 -- the cell of a root has its fields, each once, by its slots and by what is given there
 pub root_once : (face : Face) (all : List Tree) (tops : List ℕ) (c s : ℕ) (ds : List Datum) (ps : Parts) (k r : ℕ)
     (d : Nodes) → TreesFilled face all tops k (bares d) → node_at d r ≡ Some (node c s ds ps)
@@ -278,7 +273,7 @@ pub none_clear : (face : Face) (T : List BoxDef) (F : Forest) → IsTableOf face
     → OfForest T F d → (c : ℕ) → NoHead c (facts d) → NoFact c (facts d)
 none_clear face T F table filled d of c none =
     let hs : List Shape = face.shapes.structs in
-    let full = moved_length (fields_full (record { face = face; defs = T }) table F filled d of c) in
+    let full = long_same (fields_full (record { face = face; defs = T }) table F filled d of c) in
     let z = owe_none hs c (facts d) none in
     no_fact hs c (facts d) none (omega (arith, full, z))
 
@@ -306,11 +301,11 @@ module _ (face : Face) (T : List BoxDef) (F : Forest) (r : ℕ) (table : IsTable
   all_clear none =
       let vs : List Value = roots_of d in
       let rest : List Fact = forest_facts (roots_of d) [] (without_node r d) in
-      let full = moved_length (fields_full (record { face = face; defs = T }) table F filled d of c) in
+      let full = long_same (fields_full (record { face = face; defs = T }) table F filled d of c) in
       let h = counted (have hs c) (have_both hs c) vs r d (node c s ds ps) is in
       let o = counted (owe hs c) (owe_both hs c) vs r d (node c s ds ps) is in
       let own = have_own hs c vs face.boxes ps flat in
       let owed = owe_own hs c vs s ds ps flat in
-      let same = moved_length own_once in
+      let same = long_same own_once in
       let z = owe_none hs c rest none in
       no_fact hs c rest none (omega (arith, full, h, o, own, owed, same, z))

@@ -4,7 +4,7 @@ use Rattle.std.proofs.Common.{◌≡◌, ◌≢◌, inl, inr, ℕ, zero, suc, �
 use Rattle.std.proofs.Common.{cond, nat_eq, length, List, [], ◌∷◌, ◌++◌, map, flat_map, refl, sym, ap, ap₂, subst, ◌∙◌}
 use Rattle.std.proofs.Common.{slice_get, Some, append-nil, arith}
 use Rattle.std.proofs.lemmas.Bool.{eq-eqb}
-use Rattle.std.proofs.lemmas.Option.{none-some, same_Some}
+use Rattle.std.proofs.lemmas.Option.{none-some, same_Some, slice_get_within}
 use Rattle.fore_base.specs.Lists.{IsIn, Every}
 use Rattle.fore_base.proofs.ListLemmas.{in_every, every_map, place_of as place_in_list, same_item}
 use Rattle.ta_core.specs.Auto.{Automaton, IsRanked}
@@ -41,7 +41,7 @@ use Rattle.fa_merge.proofs.DroppedSpots.{AreIdle, none_given, given_same, trees_
 use Rattle.fa_merge.proofs.Dropping.{cut_forest, flat_node}
 use Rattle.fa_merge.proofs.FieldFacts.{no_list}
 use Rattle.fa_merge.proofs.Named.{var_below}
-use Rattle.fa_merge.proofs.OtherOrders.{got, mapped_length}
+use Rattle.fa_merge.proofs.OtherOrders.{mapped_length}
 use Rattle.fa_merge.proofs.PlacedForests.{component_has}
 use Rattle.fa_merge.proofs.PutForests.{node_of_tree, put_before, put_some}
 use Rattle.fa_sound.proofs.ComponentLemmas.{component_got}
@@ -168,7 +168,7 @@ module _ (face : Face) (F : Forest) (r : ℕ) (root : r < length F.autos) (ranke
   each_rest : (P : Automaton → Type 0) → ((k : ℕ) → k < size → P (comp k)) → Every P rest
   each_rest P h = in_every P rest (λ a i.
       let k = place_in_list F.autos a (in_but r F.autos a i) in
-      let l : k.0 < size = got F.autos k.0 a k.1 in
+      let l : k.0 < size = slice_get_within F.autos k.0 a k.1 in
       subst P (same_item F.autos k.0 (comp k.0) a (component_got F.autos k.0 l) k.1) (h k.0 l))
 
   each_dropped : (P : Automaton → Type 0) → ((k : ℕ) → k < size → P (placed_auto f (comp k))) → Every P G.autos

@@ -20,9 +20,9 @@ use Rattle.fa_core.specs.declared.forest.Forest.{Forest}
 use Rattle.fa_core.specs.Dressed.{Node, Parts, Nodes, node, Fact, Head, Points, facts, tree_facts}
 use Rattle.fa_core.specs.Dressed.{slot_facts, forest_facts, value_in, roots_of}
 use Rattle.fa_core.specs.Member.{StandsBy, HasItsFields, store_facts}
-use Rattle.fa_core.specs.Rearranged.{Rearranged, empty, keep, swap, chain}
+use Rattle.fa_core.specs.Rearranged.{Rearranged}
 use Rattle.fa_core.proofs.Permuted.{distinct_moved}
-use Rattle.fa_core.proofs.Rearranging.{flat_map-append, flat_mapped}
+use Rattle.fa_core.proofs.Rearranging.{flat_map-append, flat_mapped, mapped}
 use Rattle.fa_merge.specs.Dropped.{without_node, dropped, AreLeaves, IsIdle, IsCut, Removes, without_cell}
 use Rattle.fa_back.specs.Reached.{node_at}
 use Rattle.fa_merge.proofs.DroppedClear.{NoHead, all_clear}
@@ -31,12 +31,6 @@ use Rattle.fa_merge.proofs.DroppedFacts.{but_facts, but_moved, but_root, root_fi
 use Rattle.fa_merge.proofs.DroppedInsides.{dangle_fact, NoFact, HaveInputs, table_inputs}
 use Rattle.fa_back.proofs.FactParts.{fact_cell}
 use Rattle.fa_back.proofs.StoreLaws.{differ as heads_differ}
-
-fact_mapped : (g : Fact → Fact) {xs ys : List Fact} → Rearranged xs ys → Rearranged (map g xs) (map g ys)
-fact_mapped g empty = empty
-fact_mapped g (keep x r) = keep (g x) (fact_mapped g r)
-fact_mapped g (swap x y xs) = swap (g x) (g y) (map g xs)
-fact_mapped g (chain p q) = chain (fact_mapped g p) (fact_mapped g q)
 
 module _ (c : ℕ) where
   -- Cells that are left.
@@ -129,7 +123,7 @@ module _ (hs : List Shape) (T : List BoxDef) (F G : Forest) (r : ℕ) (cut : IsC
   stands_without =
       let moved : Rearranged (map (dangle_fact c) (but_facts c (facts d)))
       (map (dangle_fact c) (but_facts c (store_facts s.cells))) =
-      fact_mapped (dangle_fact c) (but_moved c h.same_facts) in
+      mapped (dangle_fact c) (but_moved c h.same_facts) in
       let there : Rearranged (facts (dropped r d)) (store_facts (without c s.cells)) =
       subst (λ (z : List Fact). Rearranged z (store_facts (without c s.cells))) step
       (subst (λ (z : List Fact). Rearranged (map (dangle_fact c) (but_facts c (facts d))) z) (store_dropped c s.cells)

@@ -75,12 +75,6 @@ abbrev pub IsOwn : ℕ → Fact → Type 0
 IsOwn c (Head n s ds) = ⊥
 IsOwn c (Points n f v) = n ≡ c
 
-pub every_there : (P : Fact → Type 0) {xs ys : List Fact} → Rearranged xs ys → Every P xs → Every P ys
-every_there P empty h = h
-every_there P (keep x r) h = (h.0, every_there P r h.1)
-every_there P (swap x y xs) h = (h.1.0, (h.0, h.1.1))
-every_there P (chain p q) h = every_there P q (every_there P p h)
-
 -- pointers of one cell in the order of its fields
 pub in_order : (c k : ℕ) (xs : List Fact) (ts : List ℕ) → Every (IsOwn c) xs → map fact_field xs ≡ numbered k ts
     → (points c k (map fact_value xs) ≡ xs) × (length xs ≡ length ts)

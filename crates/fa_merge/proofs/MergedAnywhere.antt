@@ -5,7 +5,7 @@ use Rattle.std.proofs.Common.{◌∙◌, slice_get, Some, not-suc-le-zero, le_of
 use Rattle.std.proofs.lemmas.Bool.{eqb-true, eq-eqb}
 use Rattle.std.proofs.lemmas.Option.{none-some, same_Some}
 use Rattle.fore_base.specs.Lists.{IsIn, Every, IsDistinct}
-use Rattle.fore_base.proofs.ListLemmas.{in_mapped, every_in, in_left}
+use Rattle.fore_base.proofs.ListLemmas.{in_mapped, every_in, in_left, in_from_place}
 use Rattle.ta_core.specs.Arity.{arity}
 use Rattle.ta_core.specs.Auto.{Automaton, IsRanked, IsRankedRule}
 use Rattle.ta_core.specs.Language.{InLanguage}
@@ -31,9 +31,9 @@ use Rattle.fa_merge.specs.Reordered.{renumber, counted, place_from, place_of, re
 use Rattle.fa_sound.specs.Components.{component_at}
 use Rattle.fa_merge.specs.inner.Lone.{TopsAreCells, IsLone}
 use Rattle.fa_merge.specs.inner.Orders.{IsOrder}
-use Rattle.fa_merge.proofs.MergedLast.{MeetsOnce, MeetsNever, MetIn, RootsBelow, merge_onto, merge_back}
+use Rattle.fa_merge.proofs.MergedLast.{MeetsOnce, MeetsNever, MetIn, RootsBelow, merged_both}
 use Rattle.fa_merge.proofs.OtherOrders.{counted_below, counted_differ, root_at, root_place, place_root, auto_again}
-use Rattle.fa_merge.proofs.OtherOrders.{reorder_onto, reorder_back, got_in, get_mapped, mapped_length, order_length}
+use Rattle.fa_merge.proofs.OtherOrders.{reorder_onto, reorder_back, get_mapped, mapped_length, order_length}
 use Rattle.fa_merge.proofs.OtherOrders.{place_turned, place_below}
 
 -- Places in a list
@@ -221,7 +221,7 @@ met_in R h i (k ∷ ks) zero a e o n =
     rest [] p = tt
     rest (m ∷ ms) p = (p m (inl refl), rest ms (λ z x. p z (inr x)))
 met_in R h i (k ∷ ks) (suc j) a e o n =
-    (n k (inl refl) (λ v. a.0 (rw (sym v) at (got_in ks j i e))), met_in R h i ks j a.1 e o (λ m x. n m (inr x)))
+    (n k (inl refl) (λ v. a.0 (rw (sym v) at (in_from_place ks j i e))), met_in R h i ks j a.1 e o (λ m x. n m (inr x)))
 
 roots_below : (f : ℕ → ℕ) (m : ℕ) (us : List Target) → ((k : ℕ) → IsIn (At k) us → f k < m)
     → RootsBelow m (map (placed_leaf (renumber f)) us)
@@ -356,10 +356,9 @@ module _ (F : Forest) (r i : ℕ) (h : IsLone F r i) where
   pub new_ranked : (k : ℕ) → IsRanked (new k)
   new_ranked k = placed_ranked (renumber f) (component_at F.autos k) (nth_ranked F.autos k h.ranked)
 
-  -- merged at any root: each dressed forest has its graft
-  pub merge_any : (T : List BoxDef) → Regroups T (merged_at r i F) F
-  merge_any T = regroups_on T (merged_at r i F) turned F
-      (merge_onto T turned others_new (f i) (new i) (new r) (autos_last new rest r)
+  -- the turned forest, merged at its last root
+  turned_both : (T : List BoxDef) → Regroups T (merged_at r i F) turned × Regroups T turned (merged_at r i F)
+  turned_both T = merged_both T turned others_new (f i) (new i) (new r) (autos_last new rest r)
       (get_mapped new rest (f i) i at_place) (new_ranked i).1 (new_ranked i).0
       (renumbered_tops f (component_at F.autos r) (h.tops r h.root))
       (λ o x j. renumbered_tops f (component_at F.autos i) (h.tops i h.into) o x j (At (length others_new)))
@@ -367,19 +366,12 @@ module _ (F : Forest) (r i : ℕ) (h : IsLone F r i) where
       (subst (λ (m : ℕ). MetIn m (f i) others_new) last_new met)
       (subst (λ (m : ℕ). (n : Node) → InLanguage (new r) (bare n) → AllBelow m (refs n)) last_new alone)
       (subst (λ (m : ℕ). RootsBelow m (map (placed_leaf (renumber f)) F.vars)) last_new
-      (roots_below f (f r) F.vars (λ k x. place_less k (h.vars k x).0 (h.vars k x).1))))
-      (reorder_onto T F f order is)
+      (roots_below f (f r) F.vars (λ k x. place_less k (h.vars k x).0 (h.vars k x).1)))
+
+  -- merged at any root: each dressed forest has its graft
+  pub merge_any : (T : List BoxDef) → Regroups T (merged_at r i F) F
+  merge_any T = regroups_on T (merged_at r i F) turned F (turned_both T).0 (reorder_onto T F f order is)
 
   -- and the other way
   pub unmerge_any : (T : List BoxDef) → Regroups T F (merged_at r i F)
-  unmerge_any T = regroups_on T F turned (merged_at r i F)
-      (reorder_back F f order is T)
-      (merge_back T turned others_new (f i) (new i) (new r) (autos_last new rest r)
-      (get_mapped new rest (f i) i at_place) (new_ranked i).1 (new_ranked i).0
-      (renumbered_tops f (component_at F.autos r) (h.tops r h.root))
-      (λ o x j. renumbered_tops f (component_at F.autos i) (h.tops i h.into) o x j (At (length others_new)))
-      (λ x j e. no_children (new i) (new_ranked i) (length others_new) x j e)
-      (subst (λ (m : ℕ). MetIn m (f i) others_new) last_new met)
-      (subst (λ (m : ℕ). (n : Node) → InLanguage (new r) (bare n) → AllBelow m (refs n)) last_new alone)
-      (subst (λ (m : ℕ). RootsBelow m (map (placed_leaf (renumber f)) F.vars)) last_new
-      (roots_below f (f r) F.vars (λ k x. place_less k (h.vars k x).0 (h.vars k x).1))))
+  unmerge_any T = regroups_on T F turned (merged_at r i F) (reorder_back F f order is T) (turned_both T).1

@@ -56,7 +56,8 @@ languages_back [] (y ∷ ys) h = absurd h
 languages_back (x ∷ xs) [] h = absurd h
 languages_back (x ∷ xs) (y ∷ ys) h = ((λ t. ((h.0 t).1, (h.0 t).0)), languages_back xs ys h.1)
 
-choice_over : (xs ys : List Automaton) (ts : List Tree) → Paired HasSameLanguage xs ys → Choice xs ts → Choice ys ts
+-- a choice of trees is one of components with the same languages
+pub choice_over : (xs ys : List Automaton) (ts : List Tree) → Paired HasSameLanguage xs ys → Choice xs ts → Choice ys ts
 choice_over [] [] ts h c = c
 choice_over [] (y ∷ ys) ts h c = absurd h
 choice_over (x ∷ xs) [] ts h c = absurd h

@@ -281,7 +281,7 @@ module _ (T : List BoxDef) (F : Forest) (cs : List Automaton) (i : ℕ) (t l : A
   merged_forest = record { autos = slice_set cs i (merged (length cs) t l); vars = F.vars; data_vars = F.data_vars }
 
   -- each dressed forest has its graft
-  pub merge_onto : Regroups T merged_forest F
+  merge_onto : Regroups T merged_forest F
   merge_onto d h =
       let k = split_last T cs l d (subst (λ (x : List Automaton). TreesOf T x d) autos h) in
       let c : count k.0 ≡ length cs = count_trees T cs k.0 k.3 in
@@ -300,7 +300,7 @@ module _ (T : List BoxDef) (F : Forest) (cs : List Automaton) (i : ℕ) (t l : A
       )
 
   -- each dressed forest of the merged one is a graft
-  pub merge_back : Regroups T F merged_forest
+  merge_back : Regroups T F merged_forest
   merge_back d h =
       let k = ungrafted T (length cs) t l range rooted tops own_tops flat i cs d at met h in
       let c : count k.0 ≡ length cs = count_trees T cs k.0 k.3 in
@@ -318,3 +318,7 @@ module _ (T : List BoxDef) (F : Forest) (cs : List Automaton) (i : ℕ) (t l : A
           data_vars = refl;
         },
       )
+
+  -- so both ways
+  pub merged_both : Regroups T merged_forest F × Regroups T F merged_forest
+  merged_both = (merge_onto, merge_back)

@@ -6,7 +6,7 @@ use Rattle.std.proofs.Common.{flat_map, refl, sym, ap, subst, ◌∙◌, slice_g
 use Rattle.std.proofs.lemmas.Bool.{eq-eqb}
 use Rattle.std.proofs.lemmas.Option.{none-some, same_Some}
 use Rattle.fore_base.specs.Lists.{IsIn, Every}
-use Rattle.fore_base.proofs.ListLemmas.{every_in, in_every, in_append, place_of as place_in_list}
+use Rattle.fore_base.proofs.ListLemmas.{every_in, in_every, in_append, place_of as place_in_list, in_from_place}
 use Rattle.ta_core.specs.Auto.{Automaton, IsRanked}
 use Rattle.ta_core.specs.Language.{InLanguage}
 use Rattle.ta_core.specs.declared.auto.Rule.{Rule}
@@ -44,7 +44,7 @@ use Rattle.fa_merge.proofs.MergedAnywhere.{refers_new, alone, place_less, new_ra
 use Rattle.fa_merge.proofs.MergedAnywhere.{merge_any, unmerge_any, no_children, is, once_new}
 use Rattle.fa_merge.proofs.MergedRanks.{merged_ranked}
 use Rattle.fa_merge.proofs.MergedTrees.{kept_in, moved_in, bridges_in, Top, cut}
-use Rattle.fa_merge.proofs.OtherOrders.{counted_below, got_in, one_place, root_at, root_place}
+use Rattle.fa_merge.proofs.OtherOrders.{counted_below, one_place, root_at, root_place}
 use Rattle.fa_merge.proofs.PlacedForests.{component_has, node_topped}
 use Rattle.fa_merge.proofs.PutForests.{end_of_run, put_formed, put_some, full_kept}
 use Rattle.fa_merge.proofs.ReorderedSound.{renumbered_vars}
@@ -68,7 +68,8 @@ in_set (y ∷ xs) (suc p) x a (inr i) =
     less : (m n : ℕ) → suc m ≡ suc n → m ≡ n
     less m n e = omega (arith, e)
 
-got_mapped : {X Y : Type 0} (h : X → Y) (xs : List X) (j : ℕ) (y : Y) → slice_get (map h xs) j ≡ Some y → (x : X)
+-- what stands at a place of a mapped list
+pub got_mapped : {X Y : Type 0} (h : X → Y) (xs : List X) (j : ℕ) (y : Y) → slice_get (map h xs) j ≡ Some y → (x : X)
     × (slice_get xs j ≡ Some x) × (y ≡ h x)
 got_mapped h [] j y e = absurd (none-some y e)
 got_mapped h (x ∷ xs) zero y e = (x, refl, sym (same_Some (h x) y e))
@@ -134,7 +135,7 @@ module _ (face : Face) (F : Forest) (r i : ℕ) (h : IsLone F r i) (sound : IsSo
       (λ a y. elim (in_set (others_new F r i h) (to_last (length F.autos) r i) x a y) [
         | inl e ↦ subst P (sym e) one
         | inr m ↦ (let k = got_mapped (new F r i h) (rest F r i h) m.0 a m.2 in
-            let o = in_rest k.0 (got_in (rest F r i h) m.0 k.0 k.1) in
+            let o = in_rest k.0 (in_from_place (rest F r i h) m.0 k.0 k.1) in
             subst P (sym k.2)
             (old k.0 o.0 o.1
             (λ e.

@@ -2,11 +2,11 @@
 use Rattle.std.proofs.Common.{◌≡◌, ◌⊎◌, inl, inr, ℕ, zero, suc, ◌<◌, ◌≤◌, ◌+◌, length, List, [], ◌∷◌, ◌++◌, map}
 use Rattle.std.proofs.Common.{flat_map, refl, sym, ap, ap₂, subst, ◌∙◌, slice_get, Some, not-suc-le-zero}
 use Rattle.std.proofs.Common.{le_of_suc-le-suc, arith}
-use Rattle.std.proofs.lemmas.Option.{none-some, same_Some}
+use Rattle.std.proofs.lemmas.Option.{none-some, same_Some, slice_get_within}
 use Rattle.fore_base.specs.Lists.{IsIn, Every, IsDistinct}
 use Rattle.fore_base.specs.declared.store.Value.{Value}
 use Rattle.fore_base.specs.declared.store.Value.TheVariants.{Dangling as DanglingValue, Cell}
-use Rattle.fore_base.proofs.ListLemmas.{in_every, every_in}
+use Rattle.fore_base.proofs.ListLemmas.{in_every, every_in, in_from_place}
 use Rattle.ta_core.specs.Auto.{Automaton}
 use Rattle.ta_core.specs.Language.{InLanguage}
 use Rattle.ta_core.specs.declared.auto.Rule.{Rule}
@@ -22,34 +22,13 @@ use Rattle.fa_core.specs.Dressed.{Node, Nodes, node, no_parts, no_nodes, more, v
 use Rattle.fa_core.specs.Dressed.{tree_cells, forest_cells, cells, roots_of, refs}
 use Rattle.fa_core.specs.Member.{TreesOf, OfForest, InsidesOf, Regroups, bare}
 use Rattle.fa_core.specs.Placed.{placed, placed_leaf, placed_symbol, placed_rule, placed_auto}
-use Rattle.fa_core.specs.Rearranged.{Rearranged, empty, keep, swap, chain}
+use Rattle.fa_core.specs.Rearranged.{Rearranged}
 use Rattle.fa_core.proofs.Permuted.{distinct_moved}
 use Rattle.fa_core.proofs.Placing.{Agrees, cells_placed, in_placed, insides_placed, number_placed}
-use Rattle.fa_core.proofs.Rearranging.{back, flat_mapped}
+use Rattle.fa_core.proofs.Rearranging.{back, flat_mapped, long_same, every_moved, mapped}
 use Rattle.fa_merge.specs.Reordered.{renumber, counted, reordered_by}
 use Rattle.fa_sound.specs.Components.{component_at}
 use Rattle.fa_merge.specs.inner.Orders.{IsOrder, nth_or}
-
--- Lists in another order
-
-module _ {X : Type 0} where
-  pub same_length : {xs ys : List X} → Rearranged xs ys → length xs ≡ length ys
-  same_length empty = refl
-  same_length (keep x r) = ap (λ k. suc k) (same_length r)
-  same_length (swap x y xs) = refl
-  same_length (chain a b) = same_length a ∙ same_length b
-
-  pub kept_every : (P : X → Type 0) {xs ys : List X} → Rearranged xs ys → Every P xs → Every P ys
-  kept_every P empty h = tt
-  kept_every P (keep x r) h = (h.0, kept_every P r h.1)
-  kept_every P (swap x y xs) h = (h.1.0, (h.0, h.1.1))
-  kept_every P (chain a b) h = kept_every P b (kept_every P a h)
-
-pub mapped : {X Y : Type 0} (h : X → Y) {xs ys : List X} → Rearranged xs ys → Rearranged (map h xs) (map h ys)
-mapped h empty = empty
-mapped h (keep x r) = keep (h x) (mapped h r)
-mapped h (swap x y xs) = swap (h x) (h y) (map h xs)
-mapped h (chain a b) = chain (mapped h a) (mapped h b)
 
 pub counted_length : (k n : ℕ) → length (counted k n) ≡ n
 counted_length k zero = refl
@@ -67,17 +46,6 @@ pub flat_later : {X : Type 0} (h : ℕ → List X) (k n : ℕ) → flat_map h (c
     ≡ flat_map (λ j. h (suc j)) (counted k n)
 flat_later h k zero = refl
 flat_later {X} h k (suc n) = ap (λ (z : List X). h (suc k) ++ z) (flat_later h (suc k) n)
-
--- the item at a place that is there
-pub got : {X : Type 0} (xs : List X) (i : ℕ) (x : X) → slice_get xs i ≡ Some x → i < length xs
-got [] i x e = absurd (none-some x e)
-got (y ∷ xs) zero x e = omega arith
-got (y ∷ xs) (suc i) x e = let l = got xs i x e in omega (arith, l)
-
-pub got_in : {X : Type 0} (xs : List X) (i : ℕ) (x : X) → slice_get xs i ≡ Some x → IsIn x xs
-got_in [] i x e = absurd (none-some x e)
-got_in (y ∷ xs) zero x e = inl (sym (same_Some y x e))
-got_in (y ∷ xs) (suc i) x e = inr (got_in xs i x e)
 
 -- The trees of the roots in another order
 
@@ -162,7 +130,7 @@ module _ (f : ℕ → ℕ) (order : List ℕ) (d : Nodes) (is : IsOrder (count d
           → nth_value (map (cell_of d) order) (f k) ≡ nth_value (roots_of d) k
       here (inl h) = nth_mapped (cell_of d) order (f k) k h.1 ∙ sym (root_or d k h.0)
       here (inr h) =
-          let n : length (map (cell_of d) order) ≡ count d = mapped_length (cell_of d) order ∙ same_length is.all
+          let n : length (map (cell_of d) order) ≡ count d = mapped_length (cell_of d) order ∙ long_same is.all
           ∙ counted_length 0 (count d) in
           rw h.1 (root_beyond (map (cell_of d) order) k (rw n h.0)
           ∙ sym (root_beyond (roots_of d) k (rw (roots_length d) h.0)))
@@ -197,7 +165,7 @@ module _ (f : ℕ → ℕ) (order : List ℕ) (d : Nodes) (is : IsOrder (count d
   picked_vars (u ∷ us) = ap₂ (λ (x : Value) (y : List Value). x ∷ y) (sym (value_same u)) (picked_vars us)
 
 pub order_below : (n : ℕ) (f : ℕ → ℕ) (order : List ℕ) → IsOrder n f order → Every (λ k. k < n) order
-order_below n f order is = kept_every (λ k. k < n) (back is.all) (counted_below 0 n n (omega arith))
+order_below n f order is = every_moved (λ k. k < n) (back is.all) (counted_below 0 n n (omega arith))
 
 -- the trees in the new order are a dressed forest of the reordered forest
 pub picked_of : (T : List BoxDef) (F : Forest) (f : ℕ → ℕ) (order : List ℕ) → IsOrder (length F.autos) f order
@@ -233,8 +201,8 @@ counted_differ k (suc n) = ((λ i. let l = counted_from (suc k) n k i in omega (
 pub one_place : (xs : List ℕ) (i j k : ℕ) → IsDistinct xs → slice_get xs i ≡ Some k → slice_get xs j ≡ Some k → i ≡ j
 one_place [] i j k a e g = absurd (none-some k e)
 one_place (x ∷ xs) zero zero k a e g = refl
-one_place (x ∷ xs) zero (suc j) k a e g = absurd (a.0 (rw (sym (same_Some x k e)) at (got_in xs j k g)))
-one_place (x ∷ xs) (suc i) zero k a e g = absurd (a.0 (rw (sym (same_Some x k g)) at (got_in xs i k e)))
+one_place (x ∷ xs) zero (suc j) k a e g = absurd (a.0 (rw (sym (same_Some x k e)) at (in_from_place xs j k g)))
+one_place (x ∷ xs) (suc i) zero k a e g = absurd (a.0 (rw (sym (same_Some x k g)) at (in_from_place xs i k e)))
 one_place (x ∷ xs) (suc i) (suc j) k a e g = ap (λ m. suc m) (one_place xs i j k a.1 e g)
 
 pub place_cases : {X : Type 0} (xs : List X) (j : ℕ) → ((x : X) × (slice_get xs j ≡ Some x)) ⊎ (length xs ≤ j)
@@ -279,7 +247,7 @@ module _ (n : ℕ) (f : ℕ → ℕ) (order : List ℕ) (is : IsOrder n f order)
   root_at j = nth_or order j j
 
   pub order_length : length order ≡ n
-  order_length = same_length is.all ∙ counted_length 0 n
+  order_length = long_same is.all ∙ counted_length 0 n
 
   pub root_place : (k : ℕ) → root_at (f k) ≡ k
   root_place k = here (is.finds k)
@@ -294,7 +262,7 @@ module _ (n : ℕ) (f : ℕ → ℕ) (order : List ℕ) (is : IsOrder n f order)
       here : ((k < n) × (slice_get order (f k) ≡ Some k)) ⊎ ((n ≤ k) × (f k ≡ k)) → f k ≡ j
       here (inl h) = one_place order (f k) j k (distinct_moved (back is.all) (counted_differ 0 n)) h.1 e
       here (inr h) =
-          let l : k < n = every_in (λ k. k < n) order k (order_below n f order is) (got_in order j k e) in
+          let l : k < n = every_in (λ k. k < n) order k (order_below n f order is) (in_from_place order j k e) in
           let m = h.0 in
           absurd (omega (arith, l, m))
 
@@ -313,7 +281,7 @@ module _ (n : ℕ) (f : ℕ → ℕ) (order : List ℕ) (is : IsOrder n f order)
   place_below k l = here (is.finds k)
     where
       here : ((k < n) × (slice_get order (f k) ≡ Some k)) ⊎ ((n ≤ k) × (f k ≡ k)) → f k < n
-      here (inl h) = let a : f k < length order = got order (f k) k h.1 in rw order_length at a
+      here (inl h) = let a : f k < length order = slice_get_within order (f k) k h.1 in rw order_length at a
       here (inr h) = let a = h.0 in absurd (omega (arith, a, l))
 
   abbrev pub back_order : List ℕ
@@ -333,8 +301,9 @@ module _ (n : ℕ) (f : ℕ → ℕ) (order : List ℕ) (is : IsOrder n f order)
       back_finds j = elim (place_cases order j) [
         | inl h ↦ (
             let g : root_at j ≡ h.0 = nth_got order j j h.0 h.1 in
-            let l : h.0 < n = every_in (λ k. k < n) order h.0 (order_below n f order is) (got_in order j h.0 h.1) in
-            let lj : j < length order = got order j h.0 h.1 in
+            let l : h.0 < n =
+            every_in (λ k. k < n) order h.0 (order_below n f order is) (in_from_place order j h.0 h.1) in
+            let lj : j < length order = slice_get_within order j h.0 h.1 in
             let w : slice_get back_order h.0 ≡ Some j =
             get_mapped f (counted 0 n) h.0 h.0
             (get_counted 0 n h.0 l ∙ ap (λ (z : ℕ). Some z) (let u : 0 + h.0 ≡ h.0 = omega arith in u))

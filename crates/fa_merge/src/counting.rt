@@ -36,7 +36,7 @@ pub fn can_merge(alloc: Global, forest: &Sound, root: u32) -> Mem<bool>
 }
 
 /// Whether a variable is at the root.
-fn is_target(vars: &[Target], root: u32) -> bool
+pub fn is_target(vars: &[Target], root: u32) -> bool
     ensures { IsTrue result ↔ IsIn (At root) vars.now }
 {
     for target in vars {

@@ -15,7 +15,7 @@ mod orders;
 pub mod placing;
 mod signing;
 
-pub use counting::can_merge;
+pub use counting::{can_merge, is_target};
 pub use dead::drop_dead;
 pub use idle::is_idle;
 pub use leaking::leaking_root;

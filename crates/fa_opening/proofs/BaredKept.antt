@@ -1,12 +1,11 @@
 -- A field that no box edge covers or gives to a root's cell stays so where box edges for other fields are opened.
 use Rattle.std.proofs.Common.{◌≡◌, inl, inr, ℕ, zero, suc, ◌+◌, ◌<◌, Bool, true, false, nat_eq, if◌then◌else◌, length}
-use Rattle.std.proofs.Common.{List, [], ◌∷◌, ◌++◌, map, flat_map, refl, sym, ap, subst, ◌∙◌, Option, Some, None}
+use Rattle.std.proofs.Common.{List, [], ◌∷◌, flat_map, refl, sym, ap, subst, ◌∙◌, Option, Some, None}
 use Rattle.std.proofs.Common.{slice_get, arith}
 use Rattle.std.proofs.lemmas.Bool.{eqb-true}
-use Rattle.std.proofs.lemmas.Option.{none-some, same_Some}
+use Rattle.std.proofs.lemmas.Option.{none-some}
 use Rattle.fore_base.specs.Lists.{IsIn, Every, IsDistinct}
 use Rattle.fore_base.specs.Shapes.{targets_of}
-use Rattle.fore_base.specs.declared.shape.Shape.{Shape}
 use Rattle.fore_base.specs.declared.store.Datum.{Datum}
 use Rattle.fore_base.specs.declared.store.Value.{Value}
 use Rattle.fore_base.specs.declared.store.Value.TheVariants.{Null, Uninit, Dangling, Cell}
@@ -17,26 +16,23 @@ use Rattle.ta_core.specs.declared.symbol.Slot.TheVariants.{Field, Link, Hook}
 use Rattle.ta_core.specs.declared.symbol.Symbol.{Symbol}
 use Rattle.fa_core.specs.declared.boxes.BoxDef.{BoxDef}
 use Rattle.fa_core.specs.declared.faces.BoxFace.{BoxFace}
-use Rattle.fa_core.specs.declared.faces.Face.{Face}
 use Rattle.fa_core.specs.declared.forest.Forest.{Forest}
 use Rattle.fa_core.specs.declared.forest.Target.TheVariants.{At}
 use Rattle.fa_core.specs.Boxes.{Boxes}
 use Rattle.fa_core.specs.Choices.{all_numbers}
 use Rattle.fa_core.specs.Dressed.{Node, Parts, End, Nodes, node, no_parts, field, link, hook, nth_value, roots_of}
-use Rattle.fa_core.specs.Dressed.{Seen, SeenField, SeenLink, SeenHook, SeenCell, cells, end_value}
+use Rattle.fa_core.specs.Dressed.{SeenField, SeenCell, cells, end_value}
 use Rattle.fa_core.specs.Filled.{fields_of, numbered, target_of}
-use Rattle.fa_core.specs.Folding.{symbol_slots}
 use Rattle.fa_core.specs.Member.{OfForest, slots_of}
 use Rattle.fa_core.proofs.Permuted.{in_rearranged}
 use Rattle.fa_core.proofs.SeenCells.{IsFilledCell}
 use Rattle.fa_back.specs.Reached.{node_at}
 use Rattle.fa_sound.specs.Components.{component_at}
-use Rattle.fa_split.specs.Split.{top_rule}
 use Rattle.fa_split.proofs.OtherComponent.{tree_at}
 use Rattle.fa_edit.specs.Fits.{symbol_shape}
 use Rattle.fa_edit.specs.Plain.{StructLacks, field_place_from, place_at}
-use Rattle.fa_unfold.specs.Opens.{Item, IsCell, HasSlot, item_boxes, items}
-use Rattle.fa_unfold.specs.Parts.{Part, FieldPart, listed}
+use Rattle.fa_unfold.specs.Opens.{Item, IsCell, HasSlot, items}
+use Rattle.fa_unfold.specs.Parts.{FieldPart, listed}
 use Rattle.fa_unfold.specs.Sites.{IsOver}
 use Rattle.fa_unfold.specs.UnfoldingOf.{root_slots}
 use Rattle.fa_unfold.proofs.UnfoldedMembers.{cell_items, cells_items}

@@ -27,13 +27,13 @@ use Rattle.fa_core.proofs.SeenCells.{root_cell}
 use Rattle.fa_back.specs.Reached.{node_at}
 use Rattle.fa_back.proofs.Dressable.{insides_there, some_choice, tables_dressed}
 use Rattle.fa_back.proofs.TablesKnown.{AllUse, faces_long, forest_uses}
+use Rattle.fa_back.proofs.RootMarks.{has_in}
 use Rattle.fa_merge.proofs.OtherOrders.{count_trees}
 use Rattle.fa_sound.specs.Components.{component_at}
 use Rattle.fa_split.proofs.OtherComponent.{tree_at}
 use Rattle.fa_lift.specs.Lift.{IsProvider}
 use Rattle.fa_lift.proofs.LiftEdges.{HasEdge, HasEdgeIn, HasEdgeAt}
 use Rattle.fa_lift.proofs.LiftProvides.{all_edged}
-use Rattle.fa_lift.proofs.LiftSteps.{has_in}
 use Rattle.fa_unfold.specs.Opens.{Item, IsCell, HasSlot, tree_items, slot_items, end_items, forest_items, items}
 use Rattle.fa_unfold.specs.Opens.{item_boxes}
 use Rattle.fa_unfold.specs.Parts.{Part, listed, part_item}

@@ -13,12 +13,11 @@ use Rattle.fa_core.specs.declared.forest.Target.TheVariants.{At}
 use Rattle.fa_core.specs.Boxes.{Boxes}
 use Rattle.fa_core.specs.Choices.{all_numbers}
 use Rattle.fa_core.specs.Dressed.{Node, Parts, End, Nodes, node, no_parts, field, link, hook, under, leaf, no_nodes}
-use Rattle.fa_core.specs.Dressed.{more, SeenField, SeenLink, SeenHook, SeenCell, cells, nth_value, roots_of}
+use Rattle.fa_core.specs.Dressed.{more, SeenField, SeenLink, SeenHook, cells, nth_value, roots_of}
 use Rattle.fa_core.specs.Member.{OfForest, Regroups, TreesOf, InsidesOf, InsidesOfParts, InsidesOfEnd, inside_of}
-use Rattle.fa_core.specs.Rearranged.{Rearranged, empty, keep, swap, chain}
 use Rattle.fa_core.proofs.FilledKept.{forest_numbers}
 use Rattle.fa_core.proofs.Permuted.{distinct_moved, in_rearranged}
-use Rattle.fa_core.proofs.Rearranging.{back}
+use Rattle.fa_core.proofs.Rearranging.{back, mapped}
 use Rattle.fa_core.proofs.SeenCells.{HasStruct, RootCell, cell_number, root_cell}
 use Rattle.fa_back.proofs.RootMarks.{in_flat}
 use Rattle.fa_back.proofs.TablesKnown.{AllUse, faces_long, forest_uses}
@@ -39,12 +38,6 @@ use Rattle.fa_opening.proofs.UsedBoxes.{inside_below, trees_below}
 
 -- Numbers of cells.
 
-numbers_moved : {xs ys : List SeenCell} → Rearranged xs ys → Rearranged (map cell_number xs) (map cell_number ys)
-numbers_moved empty = empty
-numbers_moved (keep x r) = keep (cell_number x) (numbers_moved r)
-numbers_moved (swap x y xs) = swap (cell_number x) (cell_number y) (map cell_number xs)
-numbers_moved (chain a b) = chain (numbers_moved a) (numbers_moved b)
-
 seen_apart : (d : Nodes) → IsDistinct (all_numbers d) → IsDistinct (map cell_number (cells d))
 seen_apart d a = subst IsDistinct (sym (forest_numbers (roots_of d) d)) a
 
@@ -59,7 +52,7 @@ below_regrouped bs T r f F G v i c k h e of a y j w =
     let g = c e of in
     let o = g.1 in
     let m = same_root r F G g.0 e v i (sym o.vars) in
-    h g.0 o.of (apart_seen g.0 (distinct_moved (numbers_moved o.same_cells) (seen_apart e a))) y
+    h g.0 o.of (apart_seen g.0 (distinct_moved (mapped cell_number o.same_cells) (seen_apart e a))) y
     (in_rearranged y (items_regrouped e g.0 o.same_cells) j) (edge_moved bs r f g.0 e y m w)
 
 -- Insides of the items of a forest.

@@ -15,7 +15,7 @@ use Rattle.fa_core.specs.Choices.{all_numbers, bares}
 use Rattle.fa_core.specs.Dressed.{Nodes, Seen, SeenField, SeenLink, SeenHook, SeenCell, cells, roots_of}
 use Rattle.fa_core.specs.Filled.{IsFilled, TreesFilled, covers, fields_of}
 use Rattle.fa_core.specs.Member.{OfForest}
-use Rattle.fa_core.specs.Rearranged.{Rearranged, empty, keep, swap, chain, often}
+use Rattle.fa_core.specs.Rearranged.{Rearranged, often}
 use Rattle.fa_core.specs.Ways.{gives_out_of}
 use Rattle.fa_core.proofs.Counts.{in_or_out, often_both, often_in, often_out, often_same}
 use Rattle.fa_core.proofs.Dressing.{choice_of, numbered_distinct}
@@ -26,6 +26,7 @@ use Rattle.fa_core.proofs.Rearranging.{flat_map-append}
 use Rattle.fa_core.proofs.SeenCells.{IsFilledCell, HasStruct, cell_number, slots_seen, tops_structs}
 use Rattle.fa_unfold.specs.Opens.{Item, IsCell, HasSlot, items}
 use Rattle.fa_unfold.proofs.UnfoldedMembers.{cell_items, cells_items}
+use Rattle.fa_unfold.proofs.OpenedOnce.{sum_moved}
 use Rattle.fa_opening.specs.Opened.{IsEdgeFor}
 
 -- the cells of a filled forest, none of which have one number, are filled
@@ -72,15 +73,12 @@ module _ (bs : List BoxFace) (n f : ℕ) where
   total [] = 0
   total (y ∷ ys) = weight y + total ys
 
-  total_same : {xs ys : List Item} → Rearranged xs ys → total xs ≡ total ys
-  total_same empty = refl
-  total_same (keep x p) = ap (λ (k : ℕ). weight x + k) (total_same p)
-  total_same (swap x y xs) = omega arith
-  total_same (chain p q) = total_same p ∙ total_same q
-
   total_both : (xs ys : List Item) → total (xs ++ ys) ≡ total xs + total ys
   total_both [] ys = omega arith
   total_both (x ∷ xs) ys = let k = total_both xs ys in omega (arith, k)
+
+  total_same : {xs ys : List Item} → Rearranged xs ys → total xs ≡ total ys
+  total_same r = sum_moved total total_both r
 
   weight_in : (y : Item) (xs : List Item) → IsIn y xs → weight y ≤ total xs
   weight_in y [] i = absurd i
@@ -94,42 +92,24 @@ module _ (bs : List BoxFace) (n f : ℕ) where
       here true = refl
       here false = refl
 
+  -- numbers before others, by themselves
+  before_none : (gs ks : List ℕ) → often f (gs ++ ks) ≡ often f (gs ++ []) + often f ks
+  before_none gs ks =
+      let p = often_both f gs ks in
+      let q = often_both f gs [] in
+      let z : often f [] ≡ 0 = refl in
+      omega (arith, p, q, z)
+
   own_more : (x : Seen) (xs : List Seen) → own (x ∷ xs) ≡ own (x ∷ []) + own xs
   own_more (SeenField g v) xs = often_both f (g ∷ []) (flat_map (covers bs) (slots_seen xs))
-  own_more (SeenLink b i v) xs = one (covers bs (Link b))
-    where
-      one : (gs : List ℕ) → often f (gs ++ flat_map (covers bs) (slots_seen xs)) ≡ often f (gs ++ []) + own xs
-      one gs =
-          let p = often_both f gs (flat_map (covers bs) (slots_seen xs)) in
-          let q = often_both f gs [] in
-          let z : often f [] ≡ 0 = refl in
-          omega (arith, p, q, z)
-  own_more (SeenHook b i) xs = one (covers bs (Hook b))
-    where
-      one : (gs : List ℕ) → often f (gs ++ flat_map (covers bs) (slots_seen xs)) ≡ often f (gs ++ []) + own xs
-      one gs =
-          let p = often_both f gs (flat_map (covers bs) (slots_seen xs)) in
-          let q = often_both f gs [] in
-          let z : often f [] ≡ 0 = refl in
-          omega (arith, p, q, z)
+  own_more (SeenLink b i v) xs = before_none (covers bs (Link b)) (flat_map (covers bs) (slots_seen xs))
+  own_more (SeenHook b i) xs = before_none (covers bs (Hook b)) (flat_map (covers bs) (slots_seen xs))
 
   gifts_more : (x : Seen) (xs : List Seen) → gifts (x ∷ xs) ≡ gifts (x ∷ []) + gifts xs
-  gifts_more (SeenField g v) xs = one (given_there n (v, []))
-    where
-      one : (gs : List ℕ) → often f (gs ++ flat_map (given_there n) (slot_gifts bs xs)) ≡ often f (gs ++ []) + gifts xs
-      one gs =
-          let p = often_both f gs (flat_map (given_there n) (slot_gifts bs xs)) in
-          let q = often_both f gs [] in
-          let z : often f [] ≡ 0 = refl in
-          omega (arith, p, q, z)
-  gifts_more (SeenLink b i v) xs = one (given_there n (v, gives_out_of bs b))
-    where
-      one : (gs : List ℕ) → often f (gs ++ flat_map (given_there n) (slot_gifts bs xs)) ≡ often f (gs ++ []) + gifts xs
-      one gs =
-          let p = often_both f gs (flat_map (given_there n) (slot_gifts bs xs)) in
-          let q = often_both f gs [] in
-          let z : often f [] ≡ 0 = refl in
-          omega (arith, p, q, z)
+  gifts_more (SeenField g v) xs =
+      before_none (given_there n (v, [])) (flat_map (given_there n) (slot_gifts bs xs))
+  gifts_more (SeenLink b i v) xs =
+      before_none (given_there n (v, gives_out_of bs b)) (flat_map (given_there n) (slot_gifts bs xs))
   gifts_more (SeenHook b i) xs = omega arith
 
   slots_total : (c : ℕ) (xs : List Seen) → total (map (HasSlot c) xs) ≡ at_cell c (own xs) + gifts xs

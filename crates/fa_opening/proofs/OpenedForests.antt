@@ -11,19 +11,20 @@ use Rattle.fa_core.specs.declared.faces.BoxFace.{BoxFace}
 use Rattle.fa_core.specs.declared.forest.Forest.{Forest}
 use Rattle.fa_core.specs.declared.forest.Target.{Target}
 use Rattle.fa_core.specs.declared.forest.Target.TheVariants.{At}
-use Rattle.fa_core.specs.Dressed.{Nodes, cells, facts, nth_value, roots_of, value_in}
+use Rattle.fa_core.specs.Dressed.{Nodes, cells, nth_value, roots_of, value_in}
 use Rattle.fa_core.specs.Member.{Regroups, RegroupsInto, Stands}
 use Rattle.fa_core.specs.Rearranged.{Rearranged, chain}
 use Rattle.fa_core.proofs.Permuted.{in_rearranged}
-use Rattle.fa_core.proofs.Rearranging.{back, same, flat_mapped}
+use Rattle.fa_core.proofs.Rearranging.{back, same}
+use Rattle.fa_core.proofs.Regrouped.{facts_follow}
 use Rattle.fa_sound.specs.Soundness.{SoundForest}
 use Rattle.fa_sound.specs.Unions.{forests}
 use Rattle.fa_split.specs.Divided.{HasVarsOf}
-use Rattle.fa_unfold.specs.Opens.{Item, opened}
+use Rattle.fa_unfold.specs.Opens.{Item}
 use Rattle.fa_unfold.specs.Unfolded.{Unfolded}
 use Rattle.fa_unfold.specs.UnfoldingOf.{HaveMembersOf}
-use Rattle.fa_unfold.proofs.Opening.{facts_opened, opens_facts, opens_keeps}
-use Rattle.fa_unfold.proofs.UnfoldedMembers.{items_regrouped}
+use Rattle.fa_unfold.proofs.Opening.{opens_facts, opens_keeps}
+use Rattle.fa_unfold.proofs.UnfoldedMembers.{items_regrouped, stands_again}
 use Rattle.fa_opening.specs.Opened.{IsEdgeForRoot, IsEdgeForSome, IsOpened, OpensFrom, OpensInto}
 
 -- The cell of a root at which a variable is.
@@ -49,10 +50,6 @@ pub same_root : (r : ℕ) (F G : Forest) (d e : Nodes) → G.vars ≡ F.vars →
     → nth_value (roots_of d) r ≡ nth_value (roots_of e) r
 same_root r F G d e v i m =
     value_at (roots_of d) (roots_of e) r F.vars (m ∙ ap (map (value_in (roots_of e))) v) i
-
--- regrouped forests say the same
-pub facts_regrouped : (d e : Nodes) → Rearranged (cells d) (cells e) → Rearranged (facts d) (facts e)
-facts_regrouped d e r = rw (facts_opened d, facts_opened e) (flat_mapped opened (items_regrouped d e r))
 
 -- an edge for the root's cell is one where the root is the same cell
 pub edge_moved : (bs : List BoxFace) (r f : ℕ) (d e : Nodes) (y : Item)
@@ -81,7 +78,7 @@ module _ (bs : List BoxFace) (r : ℕ) (P : ℕ → Type 0) where
       → map (value_in (roots_of d)) F.vars ≡ map (value_in (roots_of e)) G.vars → F.data_vars ≡ G.data_vars
       → IsOpened bs r P F G d e
   regrouped_opened F G d e c v w = record {
-    same_facts = facts_regrouped d e c;
+    same_facts = facts_follow d e c;
     stays = λ y i. inl (in_rearranged y (items_regrouped d e c) i);
     vars = v;
     data_vars = w;
@@ -174,33 +171,14 @@ module _ (bs : List BoxFace) (r : ℕ) (P : ℕ → Type 0) where
           let o = w.2.2 in (
             w.0,
             w.1,
-            (
-              w.2.0,
-              record {
-                proper = h.1.proper;
-                fields = h.1.fields;
-                of = w.2.1;
-                same_facts = chain (back o.same_facts) h.1.same_facts;
-                vars = h.1.vars ∙ o.vars;
-                data_vars = h.1.data_vars ∙ o.data_vars;
-              },
-            ),
+            (w.2.0, stands_again hs T F w.0 h.0 w.2.0 s h.1 w.2.1 (back o.same_facts) o.vars o.data_vars),
           )
 
       from_members : (G : Forest) → OpensFrom bs T r P F G → (s : Store) → Stands hs T G s → Stands hs T F s
       from_members G a s h =
           let w = a h.0 h.1.of in
-          let o = w.2 in (
-            w.0,
-            record {
-              proper = h.1.proper;
-              fields = h.1.fields;
-              of = w.1;
-              same_facts = chain o.same_facts h.1.same_facts;
-              vars = h.1.vars ∙ sym o.vars;
-              data_vars = h.1.data_vars ∙ sym o.data_vars;
-            },
-          )
+          let o = w.2 in
+          (w.0, stands_again hs T G F h.0 w.0 s h.1 w.1 o.same_facts (sym o.vars) (sym o.data_vars))
 
     -- none is lost, and none is new
     pub members_opened : (F : Forest) (Gs : List Forest) → Every (OpensFrom bs T r P F) Gs → OpensInto bs T r P F Gs

@@ -26,16 +26,15 @@ use Rattle.fa_core.specs.Member.{OfForest, bare, bare_end, slots_of}
 use Rattle.fa_core.specs.Ways.{gives_out_of}
 use Rattle.fa_core.proofs.Dressing.{cell_is_no_leaf, cell_top}
 use Rattle.fa_core.proofs.NodeRuns.{EndRun, bare_of_end}
+use Rattle.fa_core.proofs.NodeSpots.{one_leaf}
 use Rattle.fa_core.proofs.SeenCells.{root_cell}
 use Rattle.fa_back.specs.Reached.{node_at}
 use Rattle.fa_sound.specs.Components.{component_at}
 use Rattle.fa_split.specs.Split.{top_rule}
 use Rattle.fa_split.proofs.OtherComponent.{tree_at}
-use Rattle.fa_split.proofs.Places.{one_leaf}
 use Rattle.fa_split.proofs.TopRules.{tree_by_top}
-use Rattle.fa_merge.proofs.OtherOrders.{count_trees}
+use Rattle.fa_merge.proofs.OtherOrders.{count_trees, get_mapped}
 use Rattle.fa_lift.specs.Lift.{slot_gives}
-use Rattle.fa_lift.proofs.LiftSteps.{has_in}
 use Rattle.fa_unfold.specs.Opens.{Item}
 use Rattle.fa_unfold.specs.Parts.{Part, FieldPart, LinkPart, HookPart, listed, part_item}
 use Rattle.fa_unfold.specs.Slots.{Place, rule_places, state_places}
@@ -47,6 +46,7 @@ use Rattle.fa_unfold.proofs.OpenedRoots.{top_run}
 use Rattle.fa_unfold.proofs.PlaceRuns.{PlaceOf}
 use Rattle.fa_opening.specs.Opened.{IsEdgeFor, IsEdgeForRoot, slot_covers}
 use Rattle.fa_opening.specs.inner.Rounds.{IsCoverAt, IsCovering, IsGiver, IsNeeded, IsOnlyRef}
+use Rattle.fa_back.proofs.RootMarks.{has_in}
 
 -- the slots of a cell, one by one
 pub listed_slots : (ps : Parts) → map part_slot (listed ps) ≡ slots_of ps
@@ -54,12 +54,6 @@ listed_slots no_parts = refl
 listed_slots (field f e ps) = ap (λ (z : List Slot). Field f ∷ z) (listed_slots ps)
 listed_slots (link b i e ps) = ap (λ (z : List Slot). Link b ∷ z) (listed_slots ps)
 listed_slots (hook b i ps) = ap (λ (z : List Slot). Hook b ∷ z) (listed_slots ps)
-
-map_at : {X Y : Type 0} (g : X → Y) (xs : List X) (p : ℕ) (x : X) → slice_get xs p ≡ Some x
-    → slice_get (map g xs) p ≡ Some (g x)
-map_at g [] p x e = absurd (none-some x e)
-map_at g (y ∷ xs) zero x e = ap (λ z. Some (g z)) (same_Some y x e)
-map_at g (y ∷ xs) (suc p) x e = map_at g xs p x e
 
 -- what root r is
 pub root_is : (d : Nodes) (r c s : ℕ) (ds : List Datum) (ps : Parts) → node_at d r ≡ Some (node c s ds ps)
@@ -92,7 +86,7 @@ module _ (T : List BoxDef) (F : Forest) (d : Nodes) (of : OfForest T F d) (u : �
       → slice_get (listed ps) p ≡ Some x → slice_get (root_slots F u) p ≡ Some (part_slot x)
   slot_at c s ds ps e p x h =
       ap (λ (ss : List Slot). slice_get ss p) (top_slots c s ds ps e ∙ sym (listed_slots ps))
-      ∙ map_at part_slot (listed ps) p x h
+      ∙ get_mapped part_slot (listed ps) p x h
 
 module _ (bs : List BoxFace) (f : ℕ) where
   -- a slot that covers the field is a box edge

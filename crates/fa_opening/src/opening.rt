@@ -16,9 +16,9 @@ use crate::covering::covering_slot;
 use crate::giving::giver;
 use crate::unfolding::unfold_at;
 use fa_back::ranked_insides;
-use fa_core::forest::Target;
 use fa_core::table::BoxTable;
 use fa_lift::{can_lift, lift_parent};
+use fa_merge::is_target;
 use fa_sound::Sound;
 use fa_split::choose_rule;
 use fore_base::list::List;
@@ -30,26 +30,6 @@ pub fn can_open(forest: &Sound, root: u32) -> bool
     ensures { IsTrue result ↔ IsIn (At root) forest.now.forest.vars }
 {
     is_target(forest.forest().vars.as_slice(), root)
-}
-
-fn is_target(targets: &[Target], root: u32) -> bool
-    ensures { IsTrue result ↔ IsIn (At root) targets.now }
-{
-    for target in targets {
-        if is_at(target, root) {
-            return true;
-        }
-    }
-    false
-}
-
-fn is_at(target: &Target, root: u32) -> bool
-    ensures { IsTrue result ↔ (target.now ≡ At root) }
-{
-    match target {
-        Target::At(other) => *other == root,
-        _ => false,
-    }
 }
 
 /// The forests in which each box edge that covers the field at the root's cell, or gives it to that cell, is replaced

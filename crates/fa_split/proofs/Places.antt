@@ -8,18 +8,17 @@ use Rattle.fore_base.specs.declared.store.Value.TheVariants.{Cell}
 use Rattle.ta_core.specs.declared.symbol.Slot.{Slot}
 use Rattle.ta_core.specs.declared.symbol.Slot.TheVariants.{Field, Link, Hook}
 use Rattle.ta_core.specs.declared.symbol.Symbol.{Symbol}
-use Rattle.ta_core.specs.declared.symbol.Symbol.TheVariants.{Null as NullSymbol, Uninit as UninitSymbol}
-use Rattle.ta_core.specs.declared.symbol.Symbol.TheVariants.{Dangling as DanglingSymbol, Ref, Cell as CellSymbol}
+use Rattle.ta_core.specs.declared.symbol.Symbol.TheVariants.{Cell as CellSymbol}
 use Rattle.ta_core.specs.declared.tree.Tree.{Tree, out-Tree, roll-Tree, out-roll-Tree, roll-out-Tree}
 use Rattle.fa_core.specs.declared.boxes.BoxDef.{BoxDef}
 use Rattle.fa_core.specs.declared.forest.Target.{Target}
-use Rattle.fa_core.specs.declared.forest.Target.TheVariants.{Null, Uninit, Dangling, At}
 use Rattle.fa_core.specs.Choices.{count}
 use Rattle.fa_core.specs.Dressed.{Node, Parts, End, Nodes, node, no_parts, field, link, hook, under, leaf, no_nodes}
 use Rattle.fa_core.specs.Dressed.{more, number, roots_of}
 use Rattle.fa_core.specs.Member.{InsidesOf, InsidesOfParts, InsidesOfEnd, bare, bare_parts, bare_end, slots_of}
 use Rattle.fa_core.specs.Member.{leaf_symbol}
 use Rattle.fa_core.proofs.Dressing.{leaf_is_no_cell, IsCellSymbol, leaf_top, cell_top}
+use Rattle.fa_core.proofs.NodeSpots.{one_leaf}
 use Rattle.fa_back.specs.Reached.{node_at}
 use Rattle.fa_merge.specs.inner.Grafting as grafting
 use Rattle.fa_split.specs.Split.{end_at, set_end, set_node, with_last, top_parts, with_end}
@@ -138,22 +137,6 @@ pub with_end_same : (p : ℕ) (n : Node) (e : End) → end_at p (top_parts n) �
 with_end_same p (node c s ds ps) e h = ap (node c s ds) (set_same p ps e h)
 
 -- An end that is a leaf without its place is that leaf.
-
-abbrev leaf_of : Symbol → Target
-leaf_of NullSymbol = Null
-leaf_of UninitSymbol = Uninit
-leaf_of DanglingSymbol = Dangling
-leaf_of (Ref k) = At k
-leaf_of (CellSymbol s ds ss) = Null
-
-leaf_again : (t : Target) → leaf_of (leaf_symbol t) ≡ t
-leaf_again Null = refl
-leaf_again Uninit = refl
-leaf_again Dangling = refl
-leaf_again (At k) = refl
-
-pub one_leaf : (t u : Target) → leaf_symbol t ≡ leaf_symbol u → t ≡ u
-one_leaf t u e = sym (leaf_again t) ∙ ap leaf_of e ∙ leaf_again u
 
 pub end_is_leaf : (e : End) (y : Target) → bare_end e ≡ bare_end (leaf y) → e ≡ leaf y
 end_is_leaf (under (node c s ds ps)) y h =

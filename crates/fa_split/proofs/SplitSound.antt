@@ -1,6 +1,7 @@
 -- The forest in which the child's cells are a new last root is sound.
 use Rattle.std.proofs.Common.{◌≡◌, ℕ, suc, ◌<◌, ◌+◌, length, List, [], ◌∷◌, refl, sym, ap, subst, ◌∙◌, slice_get}
 use Rattle.std.proofs.Common.{slice_set, Some, true, false, true≢false, length-set, length-append, arith}
+use Rattle.std.proofs.lemmas.Option.{slice_get_within}
 use Rattle.fore_base.specs.Lists.{IsIn, Every}
 use Rattle.fore_base.proofs.ListLemmas.{in_every, every_in, every_append, place_of}
 use Rattle.ta_core.specs.Auto.{Automaton, IsRanked}
@@ -24,7 +25,6 @@ use Rattle.fa_core.proofs.FilledKept.{IsFormedTree, filled_kept, formed_by}
 use Rattle.fa_core.proofs.WaysOf.{tree_roots}
 use Rattle.fa_sound.specs.Components.{component_at}
 use Rattle.fa_sound.proofs.ComponentLemmas.{item_component}
-use Rattle.fa_merge.proofs.OtherOrders.{got}
 use Rattle.fa_merge.proofs.PlacedForests.{component_has, node_topped, topped_node}
 use Rattle.fa_split.specs.Giving.{SymbolGives, RulesGive}
 use Rattle.fa_split.specs.Split.{top_rule}
@@ -107,7 +107,7 @@ module _ (face : Face) (F : Forest) (r p : ℕ) (ranked : Every IsRanked F.autos
   old_formed = in_every (λ b. (t : Tree) → InLanguage b t → IsFormedTree (suc N) t) F.autos (λ b i t w.
       let k = place_of F.autos b i in
       let e : b ≡ component_at F.autos k.0 = item_component F.autos k.0 b k.1 in
-      let l : k.0 < N = got F.autos k.0 b k.1 in
+      let l : k.0 < N = slice_get_within F.autos k.0 b k.1 in
       let v : InLanguage (component_at F.autos k.0) t = subst (λ (z : Automaton). InLanguage z t) e w in
       let n = node_tree k.0 l t v in
       subst (λ (z : Tree). IsFormedTree (suc N) z) n.1

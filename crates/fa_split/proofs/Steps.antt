@@ -11,6 +11,7 @@ use Rattle.fa_core.specs.declared.forest.Target.{Target}
 use Rattle.fa_core.specs.declared.forest.Target.TheVariants.{Null}
 use Rattle.fa_core.specs.Cells.{is_leaf}
 use Rattle.fa_core.specs.Member.{leaf_symbol}
+use Rattle.fa_core.proofs.NodeSpots.{one_leaf}
 use Rattle.fa_core.proofs.WaysOf.{map-append}
 use Rattle.fa_sound.specs.Components.{component_at}
 use Rattle.fa_merge.proofs.Signatures.{one_more}
@@ -20,7 +21,6 @@ use Rattle.fa_sound.specs.Unions.{forests}
 use Rattle.fa_split.specs.Split.{AreThose, split_leaf}
 use Rattle.fa_split.specs.inner.Ends.{HasLeafRule, IsAdded}
 use Rattle.fa_split.proofs.ChosenForests.{picked_take, picked_leave}
-use Rattle.fa_split.proofs.Places.{one_leaf}
 use Rattle.fa_split.proofs.SplitSound.{leaf_is_leaf}
 
 pub forests_both : (xs ys : List SoundForest) → forests (xs ++ ys) ≡ forests xs ++ forests ys

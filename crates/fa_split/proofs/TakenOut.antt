@@ -11,13 +11,12 @@ use Rattle.fa_core.specs.Rearranged.{Rearranged, keep, chain, often}
 use Rattle.fa_core.specs.References.{AllBelow, IsOnce, IsNever}
 use Rattle.fa_core.proofs.Counts.{often_same, often_both, once_often, often_below, never_below, never_left, never_right}
 use Rattle.fa_core.proofs.Counts.{below_left, below_right, below_both, below_wider}
-use Rattle.fa_core.proofs.Rearranging.{back, after, before, middle, exchange}
+use Rattle.fa_core.proofs.Rearranging.{back, after, before, middle, exchange, every_moved}
 use Rattle.fa_back.specs.Reached.{node_at}
 use Rattle.fa_merge.specs.inner.Grafting as grafting
 use Rattle.fa_merge.specs.inner.Grafting.{plug, plug_parts, plug_end, plug_all}
 use Rattle.fa_merge.proofs.CutTrees.{plug_never_tree, plug_never_parts, plug_never_end}
 use Rattle.fa_merge.proofs.GraftedCells.{graft_last}
-use Rattle.fa_merge.proofs.OtherOrders.{kept_every}
 use Rattle.fa_split.specs.Split.{end_at, set_end, set_node, with_last, top_parts, with_end, IsTakenOut}
 use Rattle.fa_split.proofs.Places.{set_count, last_is}
 
@@ -165,7 +164,7 @@ module _ (r p : ℕ) (d e : Nodes) (t : IsTakenOut r p d e) where
 
   module _ (below : AllBelow k (all_refs d)) where
     wide : AllBelow (suc k) (all_refs ns ++ refs t.child)
-    wide = kept_every (λ q. q < suc k) (back taken_all)
+    wide = every_moved (λ q. q < suc k) (back taken_all)
         (omega arith, below_wider k (suc k) (omega arith) (all_refs d) below)
 
     pub child_below : AllBelow k (refs t.child)

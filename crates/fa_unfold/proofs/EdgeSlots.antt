@@ -22,11 +22,11 @@ use Rattle.fa_core.specs.Dressed.{leaf}
 use Rattle.fa_core.specs.Folding.{symbol_slots}
 use Rattle.fa_core.specs.Member.{bare_end, leaf_symbol}
 use Rattle.fa_core.proofs.Dressing.{leaf_top}
+use Rattle.fa_core.proofs.NodeSpots.{one_leaf}
 use Rattle.fa_sound.specs.Components.{component_at}
 use Rattle.fa_split.specs.Split.{child_state, top_rule}
 use Rattle.fa_split.specs.inner.Ends.{HasLeafRule}
 use Rattle.fa_split.proofs.ChosenTrees.{leaf_arity}
-use Rattle.fa_split.proofs.Places.{one_leaf}
 use Rattle.fa_split.proofs.RunPlaces.{at_index}
 use Rattle.fa_split.proofs.TopRules.{top_in}
 use Rattle.fa_unfold.specs.Sites.{IsHookAt, IsLinkAt, IsLinkAtSlot, child_place}

@@ -87,8 +87,10 @@ module _ (t : Boxes) (F : Forest) (over : IsOver t F) where
           told G r.same_vars (count r.ns) e (omega (arith, l, s))
           (subst (λ (z : Nodes). TreesFilled shown (bares z) (node_structs z) 0 (bares z)) m
           (opened_filled t over.table F over.sound.well_formed.filled i p b r.base r.of_base (below r.base r.of_base)
-          (let j = at.root in omega (arith, l, j)) r.cell r.shape r.datums r.parts r.at (input ∷ (output ∷ inner)) is y
-          (λ n q. (let j = at.end n q in omega (arith, l, j))) r.c0 r.s0 r.ds0 r.ps r.c1 r.s1 r.ds1 r.qs r.ns r.has
+          (let j = at.root in omega (arith, l, j)) r.part.cell r.part.shape r.part.datums r.part.parts r.part.at
+          (input ∷ (output ∷ inner)) is y
+          (λ n q. (let j = at.end n q in omega (arith, l, j))) r.c0 r.s0 r.ds0 r.ps r.c1 r.s1 r.ds1 r.qs r.ns
+          r.part.has
           r.trees G.autos (subst (λ (z : Nodes). TreesOf t.defs G.autos z) (sym m) h)
           (subst (λ (z : Nodes). IsDistinct (map cell_number (cells z))) (sym m) (numbers_apart e a))))
 
@@ -112,7 +114,7 @@ module _ (t : Boxes) (F : Forest) (over : IsOver t F) where
           told G r.same_vars (count r.ns) e (omega (arith, l, s))
           (subst (λ (z : Nodes). TreesFilled shown (bares z) (node_structs z) 0 (bares z)) m
           (hook_opened_filled t over.table F over.sound.well_formed.filled i p b r.base r.of_base
-          (below r.base r.of_base) (let j = at.root in omega (arith, l, j)) r.cell r.shape r.datums r.parts r.at
-          (input ∷ inner) is r.c0 r.s0 r.ds0 r.ps r.ns r.has r.trees G.autos
+          (below r.base r.of_base) (let j = at.root in omega (arith, l, j)) r.part.cell r.part.shape
+          r.part.datums r.part.parts r.part.at (input ∷ inner) is r.c0 r.s0 r.ds0 r.ps r.ns r.part.has r.trees G.autos
           (subst (λ (z : Nodes). TreesOf t.defs G.autos z) (sym m) h)
           (subst (λ (z : Nodes). IsDistinct (map cell_number (cells z))) (sym m) (numbers_apart e a))))

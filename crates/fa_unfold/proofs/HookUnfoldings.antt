@@ -5,7 +5,7 @@ use Rattle.std.proofs.lemmas.Option.{same_Some}
 use Rattle.fore_base.specs.Lists.{IsIn, Every}
 use Rattle.fore_base.specs.declared.store.Datum.{Datum}
 use Rattle.fore_base.specs.declared.store.Value.{Value}
-use Rattle.fore_base.proofs.ListLemmas.{every_in, in_map, in_mapped, in_from_place}
+use Rattle.fore_base.proofs.ListLemmas.{in_map, in_mapped}
 use Rattle.ta_core.specs.Auto.{Automaton, IsRanked}
 use Rattle.ta_core.specs.Language.{RunOf}
 use Rattle.ta_core.specs.Single.{HasOneTop}
@@ -16,22 +16,20 @@ use Rattle.fa_core.specs.declared.faces.BoxFace.{BoxFace}
 use Rattle.fa_core.specs.declared.forest.Forest.{Forest}
 use Rattle.fa_core.specs.declared.forest.Target.{Target}
 use Rattle.fa_core.specs.Choices.{count}
-use Rattle.fa_core.specs.Dressed.{Node, Parts, Nodes, node, no_nodes, more}
+use Rattle.fa_core.specs.Dressed.{Parts, Nodes, node, no_nodes, more}
 use Rattle.fa_core.specs.Dressed.{value_in, roots_of, all_refs, SeenHook}
 use Rattle.fa_core.specs.Filled.{IsRoot}
 use Rattle.fa_core.specs.Member.{OfForest, TreesOf, inside_of}
 use Rattle.fa_core.specs.Placed.{placed_parts, placed_all, placed_auto}
 use Rattle.fa_core.specs.References.{AllBelow}
 use Rattle.fa_core.proofs.Placing.{placed_ranked, insides_placed}
-use Rattle.fa_back.specs.Reached.{node_at}
 use Rattle.fa_sound.specs.Components.{component_at}
 use Rattle.fa_split.specs.Split.{top_rule}
 use Rattle.fa_merge.proofs.OtherOrders.{count_trees}
 use Rattle.fa_split.proofs.ChosenForests.{picked_each, picked_all}
-use Rattle.fa_split.proofs.OtherComponent.{tree_at}
 use Rattle.fa_unfold.specs.Opens.{HasSlot}
 use Rattle.fa_unfold.specs.Outside.{outside_hook}
-use Rattle.fa_unfold.specs.Parts.{Part, HookPart, listed}
+use Rattle.fa_unfold.specs.Parts.{HookPart}
 use Rattle.fa_unfold.specs.Slots.{rule_places}
 use Rattle.fa_unfold.specs.Unfolded.{Unfolded, UnfoldsFrom, UnfoldsInto}
 use Rattle.fa_unfold.specs.Unfolding.{IsTop, AreHookTops, open_root}
@@ -39,12 +37,10 @@ use Rattle.fa_unfold.specs.Unfolding.{with_inner, hook_unfoldings}
 use Rattle.fa_unfold.specs.inner.Trees.{unlisted, joined_parts, parts_without, at_root, with_all}
 use Rattle.fa_unfold.specs.inner.Trees.{hook_opened}
 use Rattle.fa_unfold.proofs.EdgeParts.{vars_stay, is_hook}
-use Rattle.fa_unfold.proofs.OpenedRoots.{top_run, opened_from, opened_to}
+use Rattle.fa_unfold.proofs.OpenedRoots.{HasPart, part_there, opened_from, opened_to}
 use Rattle.fa_unfold.proofs.OpenedRoots.{inner_to, inner_from}
 use Rattle.fa_unfold.proofs.OpenedTrees.{opens_hook, hook_roots}
-use Rattle.fa_unfold.proofs.PlaceRuns.{PlaceOf}
 use Rattle.fa_unfold.proofs.PortTrees.{PartInside, insides_listed, port_from, port_to}
-use Rattle.fa_unfold.proofs.Joins.{item_paired}
 
 -- the steps of replacing a Hook, one after the other
 hook_is : (bs : List BoxFace) (i p n : ℕ) (ps : Parts) (ns d : Nodes) (os : Parts) (d1 e : Nodes) → count d ≡ n
@@ -101,30 +97,28 @@ module _ (bs : List BoxFace) (T : List BoxDef) (F : Forest) (ranked : Every IsRa
     made z = with_inner (map (placed_auto f) inner) (open_root bs F i p first z)
 
     hook_unfolded : (G : Forest) → G.vars ≡ F.vars → G.data_vars ≡ F.data_vars → (d : Nodes) → OfForest T F d
-        → (c s : ℕ) (ds : List Datum) (os : Parts) → node_at d i ≡ Some (node c s ds os) → (c0 s0 : ℕ)
-        (ds0 : List Datum) (ps : Parts) (ns : Nodes)
-        → slice_get (listed os) p ≡ Some (HookPart b (more (node c0 s0 ds0 ps) ns))
-        → Unfolded F G i p d (hook_opened bs i p ps ns d)
-    hook_unfolded G v w d h c s ds os e c0 s0 ds0 ps ns k =
+        → (c0 s0 : ℕ) (ds0 : List Datum) (ps : Parts) (ns : Nodes)
+        → HasPart d i p (HookPart b (more (node c0 s0 ds0 ps) ns)) → Unfolded F G i p d (hook_opened bs i p ps ns d)
+    hook_unfolded G v w d h c0 s0 ds0 ps ns x =
         let inside : Nodes = more (node c0 s0 ds0 ps) ns in
         record {
-          edge = HasSlot c (SeenHook b inside);
+          edge = HasSlot x.cell (SeenHook b inside);
           at = record {
-            cell = c;
-            shape = s;
-            datums = ds;
-            parts = os;
+            cell = x.cell;
+            shape = x.shape;
+            datums = x.datums;
+            parts = x.parts;
             part = HookPart b inside;
-            at = e;
-            has = k;
+            at = x.at;
+            has = x.has;
             edge = tt;
             is = refl;
           };
-          opens = opens_hook bs d i p c s ds os e (below d h) b c0 s0 ds0 ps ns k;
+          opens = opens_hook bs d i p x.cell x.shape x.datums x.parts x.at (below d h) b c0 s0 ds0 ps ns x.has;
           vars = vars_stay d (roots_of ns) F.vars
               (subst (λ (m : ℕ). Every (IsRoot m) F.vars) (sym (long d h)) vars)
               ∙ ap₂ (λ (us : List Value) (ts : List Target). map (value_in us) ts)
-              (sym (hook_roots bs d i p c s ds os e (below d h) b c0 s0 ds0 ps ns)) (sym v);
+              (sym (hook_roots bs d i p x.cell x.shape x.datums x.parts x.at (below d h) b c0 s0 ds0 ps ns)) (sym v);
           data_vars = sym w;
         }
 
@@ -134,17 +128,12 @@ module _ (bs : List BoxFace) (T : List BoxDef) (F : Forest) (ranked : Every IsRa
       pub same_data : G.data_vars ≡ F.data_vars
       pub base : Nodes
       pub of_base : OfForest T F base
-      pub cell : ℕ
-      pub shape : ℕ
-      pub datums : List Datum
-      pub parts : Parts
-      pub at : node_at base i ≡ Some (node cell shape datums parts)
       pub c0 : ℕ
       pub s0 : ℕ
       pub ds0 : List Datum
       pub ps : Parts
       pub ns : Nodes
-      pub has : slice_get (listed parts) p ≡ Some (HookPart b (more (node c0 s0 ds0 ps) ns))
+      pub part : HasPart base i p (HookPart b (more (node c0 s0 ds0 ps) ns))
       pub trees : TreesOf T (input ∷ inner) (more (node c0 s0 ds0 ps) ns)
       pub opened : hook_opened bs i p ps ns base ≡ e
 
@@ -163,17 +152,12 @@ module _ (bs : List BoxFace) (T : List BoxDef) (F : Forest) (ranked : Every IsRa
           same_data = ap (λ (x : Forest). x.data_vars) m.2;
           base = cl.before;
           of_base = cl.of;
-          cell = cl.cell;
-          shape = cl.shape;
-          datums = cl.datums;
-          parts = cl.parts;
-          at = cl.at;
           c0 = w.cell;
           s0 = w.shape;
           ds0 = w.datums;
           ps = w.parts;
           ns = v.1;
-          has = cl.has;
+          part = cl.part;
           trees = (w.tree, w.insides, v.4);
           opened = hook_is bs i p n w.parts v.1 cl.before (unlisted x.gained) v.0 e (long cl.before cl.of) w.is
               cl.opened
@@ -184,8 +168,7 @@ module _ (bs : List BoxFace) (T : List BoxDef) (F : Forest) (ranked : Every IsRa
     pub hook_from : (G : Forest) → IsIn G (hook_unfoldings bs F i p input inner ins) → UnfoldsFrom T F i p G
     hook_from G k e h =
         let r = replaced_hook G k e h in
-        let g = hook_unfolded G r.same_vars r.same_data r.base r.of_base r.cell r.shape r.datums r.parts r.at r.c0 r.s0
-        r.ds0 r.ps r.ns r.has in
+        let g = hook_unfolded G r.same_vars r.same_data r.base r.of_base r.c0 r.s0 r.ds0 r.ps r.ns r.part in
         (r.base, r.of_base, subst (λ (d : Nodes). Unfolded F G i p r.base d) r.opened g)
 
     abbrev IntoHook : Nodes → Type 0
@@ -194,16 +177,20 @@ module _ (bs : List BoxFace) (T : List BoxDef) (F : Forest) (ranked : Every IsRa
 
     -- each dressed forest of F is, with the Hook replaced, one of some forest of the list
     pub hook_into : UnfoldsInto T F i p (hook_unfoldings bs F i p input inner ins)
-    hook_into d h = let t = tree_at T F.autos i d there h in at_top t.0 t.1
+    hook_into d h =
+        let x = part_there bs T F ranked i p there one (Hook b, []) slot d h in
+        let k = is_hook (RunOf a.rules) b x.0 x.2 in
+        let u = subst (PartInside T) k.1 x.3 in
+        opened k.0 (subst (HasPart d i p) k.1 x.1)
+        (subst (λ (v : List Automaton). TreesOf T v k.0) (same_Some u.0 (input ∷ inner) (sym u.1 ∙ is)) u.2)
       where
-        opened : (c s : ℕ) (ds : List Datum) (os : Parts) → node_at d i ≡ Some (node c s ds os) → (inside : Nodes)
-            → slice_get (listed os) p ≡ Some (HookPart b inside) → TreesOf T (input ∷ inner) inside → IntoHook d
-        opened c s ds os e no_nodes k u = absurd u
-        opened c s ds os e (more (node c0 s0 ds0 ps) ns) k u =
+        opened : (inside : Nodes) → HasPart d i p (HookPart b inside) → TreesOf T (input ∷ inner) inside → IntoHook d
+        opened no_nodes x u = absurd u
+        opened (more (node c0 s0 ds0 ps) ns) x u =
             let z = port_to f T input in_right c0 s0 ds0 ps u.0 in
             let k0 : IsIn z.0 ins = picked_all (IsTop first) are z.0 z.1 z.2 in
             let o = opened_to bs T F ranked i p there one (Hook b, []) slot first first_right z.0 z.1
-            d h c s ds os e (placed_parts f ps) z.3
+            d h x.cell x.shape x.datums x.parts x.at (placed_parts f ps) z.3
             (insides_listed T (placed_parts f ps) (insides_placed f T (node c0 s0 ds0 ps) u.1)) in
             let D : ℕ → Nodes = λ w. with_all
             (at_root (λ os. joined_parts bs os (placed_parts (outside_hook i w) ps)) i (at_root (parts_without p) i d))
@@ -216,18 +203,6 @@ module _ (bs : List BoxFace) (T : List BoxDef) (F : Forest) (ranked : Every IsRa
                     (inner_to T f inner (open_root bs F i p first z.0)
                     (at_root (λ os. joined_parts bs os (placed_parts f ps)) i (at_root (parts_without p) i d)) ns o
                     u.2),
-                hook_unfolded (made z.0) refl refl d h c s ds os e c0 s0 ds0 ps ns k,
+                hook_unfolded (made z.0) refl refl d h c0 s0 ds0 ps ns x,
               ),
             )
-
-        at_top : (m : Node) → node_at d i ≡ Some m → IntoHook d
-        at_top (node c s ds os) e =
-            let t = top_run bs T F ranked i p there one (Hook b, []) slot d h c s ds os e in
-            let x = item_paired (PlaceOf (RunOf a.rules)) p (rule_places (top_rule a)) (listed os) (Hook b, []) t.1
-            slot in
-            let k = is_hook (RunOf a.rules) b x.0 x.2 in
-            let s2 : slice_get (listed os) p ≡ Some (HookPart b k.0) = x.1 ∙ ap (λ (v : Part). Some v) k.1 in
-            let u = every_in (PartInside T) (listed os) (HookPart b k.0) t.2
-            (in_from_place (listed os) p (HookPart b k.0) s2) in
-            opened c s ds os e k.0 s2
-            (subst (λ (v : List Automaton). TreesOf T v k.0) (same_Some u.0 (input ∷ inner) (sym u.1 ∙ is)) u.2)

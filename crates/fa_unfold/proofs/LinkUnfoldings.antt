@@ -8,7 +8,7 @@ use Rattle.std.proofs.lemmas.Option.{same_Some}
 use Rattle.fore_base.specs.Lists.{IsIn, Every}
 use Rattle.fore_base.specs.declared.store.Datum.{Datum}
 use Rattle.fore_base.specs.declared.store.Value.{Value}
-use Rattle.fore_base.proofs.ListLemmas.{every_in, every_set, in_map, in_mapped, in_from_place}
+use Rattle.fore_base.proofs.ListLemmas.{every_set, in_map, in_mapped}
 use Rattle.ta_core.specs.Auto.{Automaton, IsRanked}
 use Rattle.ta_core.specs.Language.{RunOf, InLanguage}
 use Rattle.ta_core.specs.Single.{HasOneTop}
@@ -30,32 +30,29 @@ use Rattle.fa_core.specs.Member.{OfForest, TreesOf, InsidesOf, InsidesOfParts, i
 use Rattle.fa_core.specs.Placed.{placed_parts, placed_all, placed_auto}
 use Rattle.fa_core.specs.References.{AllBelow}
 use Rattle.fa_core.proofs.Placing.{placed_ranked, slots_placed, insides_placed}
-use Rattle.fa_back.specs.Reached.{node_at}
 use Rattle.fa_back.proofs.RootMarks.{in_flat, flat_in}
 use Rattle.fa_sound.specs.Components.{component_at}
 use Rattle.fa_split.specs.Split.{top_rule}
 use Rattle.fa_merge.proofs.OtherOrders.{count_trees}
 use Rattle.fa_split.proofs.Places.{end_is_leaf}
 use Rattle.fa_split.proofs.ChosenForests.{picked_each, picked_all}
-use Rattle.fa_split.proofs.OtherComponent.{tree_at, component_set, component_other}
+use Rattle.fa_split.proofs.OtherComponent.{component_set, component_other}
 use Rattle.fa_split.proofs.TopRules.{top_in, top_root, top_alone}
 use Rattle.fa_unfold.specs.Opens.{HasSlot}
 use Rattle.fa_unfold.specs.Outside.{outside}
-use Rattle.fa_unfold.specs.Parts.{Part, LinkPart, listed}
+use Rattle.fa_unfold.specs.Parts.{LinkPart}
 use Rattle.fa_unfold.specs.Slots.{without, rule_places}
-use Rattle.fa_unfold.specs.Unfolded.{Unfolded, IsEdgeAt, UnfoldsFrom, UnfoldsInto}
+use Rattle.fa_unfold.specs.Unfolded.{Unfolded, UnfoldsFrom, UnfoldsInto}
 use Rattle.fa_unfold.specs.Unfolding.{IsTop, Tops, AreLinkTops, grown, end_rules, open_root, grow_root, grown_roots}
 use Rattle.fa_unfold.specs.Unfolding.{is_bare, have_no_slots, with_end}
 use Rattle.fa_unfold.specs.Unfolding.{with_inner, link_unfoldings}
 use Rattle.fa_unfold.specs.inner.Trees.{unlisted, joined_parts, parts_without, at_root, at_leaf, with_all, link_opened}
 use Rattle.fa_unfold.proofs.EdgeParts.{vars_stay, no_slots, none_listed, joined_none, is_link, is_cell_top}
 use Rattle.fa_unfold.proofs.GrownTrees.{grown_right, grown_one}
-use Rattle.fa_unfold.proofs.OpenedRoots.{top_run, opened_from, opened_to, grown_from}
+use Rattle.fa_unfold.proofs.OpenedRoots.{HasPart, part_there, opened_from, opened_to, grown_from}
 use Rattle.fa_unfold.proofs.OpenedRoots.{grown_to, inner_to, inner_from, component_has, base_right}
 use Rattle.fa_unfold.proofs.OpenedTrees.{opens_link, link_roots}
-use Rattle.fa_unfold.proofs.PlaceRuns.{PlaceOf}
 use Rattle.fa_unfold.proofs.PortTrees.{PartInside, insides_listed, port_from, port_to}
-use Rattle.fa_unfold.proofs.Joins.{item_paired}
 
 -- the steps of replacing a Link, one after the other
 link_is : (bs : List BoxFace) (i p n : ℕ) (y : Target) (ps qs : Parts) (ns d : Nodes) (os : Parts) (d1 d2 e : Nodes)
@@ -130,39 +127,32 @@ module _ (bs : List BoxFace) (T : List BoxDef) (F : Forest) (ranked : Every IsRa
     last_top : (z : Rule) → IsIn z tops.outs → IsTop last z
     last_top z k = (picked_each (IsTop last) are.outs z k).1
 
-    -- the root has a box edge there
-    link_edge : (c s : ℕ) (ds : List Datum) (os : Parts) (d : Nodes) (inside : Nodes)
-        → node_at d i ≡ Some (node c s ds os) → slice_get (listed os) p ≡ Some (LinkPart b inside (leaf y))
-        → IsEdgeAt i p d (HasSlot c (SeenLink b inside (value_in (roots_of d) y)))
-    link_edge c s ds os d inside e k = record {
-      cell = c;
-      shape = s;
-      datums = ds;
-      parts = os;
-      part = LinkPart b inside (leaf y);
-      at = e;
-      has = k;
-      edge = tt;
-      is = refl;
-    }
-
     link_unfolded : (G : Forest) → G.vars ≡ F.vars → G.data_vars ≡ F.data_vars → (d : Nodes) → OfForest T F d
-        → (c s : ℕ) (ds : List Datum) (os : Parts) → node_at d i ≡ Some (node c s ds os) → (c0 s0 : ℕ)
-        (ds0 : List Datum)
-        (ps : Parts) (c1 s1 : ℕ) (ds1 : List Datum) (qs : Parts) (ns : Nodes)
-        → slice_get (listed os) p
-        ≡ Some (LinkPart b (more (node c0 s0 ds0 ps) (more (node c1 s1 ds1 qs) ns)) (leaf y))
+        → (c0 s0 : ℕ) (ds0 : List Datum) (ps : Parts) (c1 s1 : ℕ) (ds1 : List Datum) (qs : Parts) (ns : Nodes)
+        → HasPart d i p (LinkPart b (more (node c0 s0 ds0 ps) (more (node c1 s1 ds1 qs) ns)) (leaf y))
         → Unfolded F G i p d (link_opened bs i p y ps qs ns d)
-    link_unfolded G v w d h c s ds os e c0 s0 ds0 ps c1 s1 ds1 qs ns k =
+    link_unfolded G v w d h c0 s0 ds0 ps c1 s1 ds1 qs ns x =
         let inside : Nodes = more (node c0 s0 ds0 ps) (more (node c1 s1 ds1 qs) ns) in
         record {
-          edge = HasSlot c (SeenLink b inside (value_in (roots_of d) y));
-          at = link_edge c s ds os d inside e k;
-          opens = opens_link bs d i p c s ds os e (below d h) b y c0 s0 ds0 ps c1 s1 ds1 qs ns k;
+          edge = HasSlot x.cell (SeenLink b inside (value_in (roots_of d) y));
+          at = record {
+            cell = x.cell;
+            shape = x.shape;
+            datums = x.datums;
+            parts = x.parts;
+            part = LinkPart b inside (leaf y);
+            at = x.at;
+            has = x.has;
+            edge = tt;
+            is = refl;
+          };
+          opens = opens_link bs d i p x.cell x.shape x.datums x.parts x.at (below d h) b y c0 s0 ds0 ps c1 s1 ds1 qs ns
+              x.has;
           vars = vars_stay d (roots_of ns) F.vars
               (subst (λ (m : ℕ). Every (IsRoot m) F.vars) (sym (long d h)) vars)
               ∙ ap₂ (λ (us : List Value) (ts : List Target). map (value_in us) ts)
-              (sym (link_roots bs d i p c s ds os e (below d h) b y c0 s0 ds0 ps c1 s1 ds1 qs ns k)) (sym v);
+              (sym (link_roots bs d i p x.cell x.shape x.datums x.parts x.at (below d h) b y c0 s0 ds0 ps c1 s1 ds1 qs
+              ns x.has)) (sym v);
           data_vars = sym w;
         }
 
@@ -177,23 +167,6 @@ module _ (bs : List BoxFace) (T : List BoxDef) (F : Forest) (ranked : Every IsRa
       tree : InLanguage output (bare (node cell shape datums parts))
       insides : InsidesOfParts T parts
       opened : at_leaf (λ os. joined_parts bs os (placed_parts f parts)) y before ≡ e2
-
-    any_tree : (F1 : Forest) (e2 : Nodes) → OfForest T F1 e2 → ((g : Parts → Parts) → at_leaf g y e2 ≡ e2)
-        → IsEnded F1 e2
-    any_tree F1 e2 h same = told some.0 some.1 some.2
-      where
-        told : (m : Node) → InLanguage output (bare m) → InsidesOf T m → IsEnded F1 e2
-        told (node c s ds ps) l k = record {
-          before = e2;
-          of = h;
-          cell = c;
-          shape = s;
-          datums = ds;
-          parts = ps;
-          tree = l;
-          insides = k;
-          opened = same (λ os. joined_parts bs os (placed_parts f ps));
-        }
 
     -- where the output has no slots, its tree has none
     bare_tree : (c s : ℕ) (ds : List Datum) (ps : Parts) → have_no_slots tops.outs ≡ true
@@ -249,53 +222,39 @@ module _ (bs : List BoxFace) (T : List BoxDef) (F : Forest) (ranked : Every IsRa
             picked_all (IsTop (component_at F.autos j)) (are.ends j e) w (subst (λ (c : Automaton). IsIn w c.rules) q k)
             (subst (λ (c : Automaton). IsTop c w) q s)
 
+    -- where no tree of the output changes the end, any will do
+    unended : (F1 : Forest) (t : Target) → t ≡ y → (G : Forest) → G ≡ F1 → (e2 : Nodes) → OfForest T G e2
+        → ((c s : ℕ) (ds : List Datum) (ps : Parts) → InLanguage output (bare (node c s ds ps))
+        → at_leaf (λ os. joined_parts bs os (placed_parts f ps)) t e2 ≡ e2)
+        → (G.vars ≡ F1.vars) × (G.data_vars ≡ F1.data_vars) × IsEnded F1 e2
+    unended F1 t e G k e2 h same =
+        (ap (λ (x : Forest). x.vars) k, ap (λ (x : Forest). x.data_vars) k, told some.0 some.1 some.2)
+      where
+        told : (m : Node) → InLanguage output (bare m) → InsidesOf T m → IsEnded F1 e2
+        told (node c s ds ps) l i = record {
+          before = e2;
+          of = subst (λ (x : Forest). OfForest T x e2) k h;
+          cell = c;
+          shape = s;
+          datums = ds;
+          parts = ps;
+          tree = l;
+          insides = i;
+          opened = subst (λ (x : Target). at_leaf (λ os. joined_parts bs os (placed_parts f ps)) x e2 ≡ e2) e
+              (same c s ds ps l);
+        }
+
     ended_at : (F1 : Forest) → IsOpenedAt F1 → (t : Target) → t ≡ y → (G : Forest)
         → IsIn G (with_end bs F1 i t tops.ends last tops.outs) → (e2 : Nodes) → OfForest T G e2
         → (G.vars ≡ F1.vars) × (G.data_vars ≡ F1.data_vars) × IsEnded F1 e2
-    ended_at F1 r Null e G (inl k) e2 h = (
-      ap (λ (x : Forest). x.vars) k,
-      ap (λ (x : Forest). x.data_vars) k,
-      any_tree F1 e2 (subst (λ (x : Forest). OfForest T x e2) k h)
-          (λ g. subst (λ (x : Target). at_leaf g x e2 ≡ e2) e refl),
-    )
+    ended_at F1 r Null e G (inl k) e2 h = unended F1 Null e G k e2 h (λ c s ds ps l. refl)
     ended_at F1 r Null e G (inr k) e2 h = absurd k
-    ended_at F1 r Uninit e G (inl k) e2 h = (
-      ap (λ (x : Forest). x.vars) k,
-      ap (λ (x : Forest). x.data_vars) k,
-      any_tree F1 e2 (subst (λ (x : Forest). OfForest T x e2) k h)
-          (λ g. subst (λ (x : Target). at_leaf g x e2 ≡ e2) e refl),
-    )
+    ended_at F1 r Uninit e G (inl k) e2 h = unended F1 Uninit e G k e2 h (λ c s ds ps l. refl)
     ended_at F1 r Uninit e G (inr k) e2 h = absurd k
-    ended_at F1 r Dangling e G (inl k) e2 h = (
-      ap (λ (x : Forest). x.vars) k,
-      ap (λ (x : Forest). x.data_vars) k,
-      any_tree F1 e2 (subst (λ (x : Forest). OfForest T x e2) k h)
-          (λ g. subst (λ (x : Target). at_leaf g x e2 ≡ e2) e refl),
-    )
+    ended_at F1 r Dangling e G (inl k) e2 h = unended F1 Dangling e G k e2 h (λ c s ds ps l. refl)
     ended_at F1 r Dangling e G (inr k) e2 h = absurd k
     ended_at F1 r (At j) e G k e2 h = here (have_no_slots tops.outs) refl k
       where
-        same_vars : G ≡ F1 → (G.vars ≡ F1.vars) × (G.data_vars ≡ F1.data_vars)
-        same_vars w = (ap (λ (x : Forest). x.vars) w, ap (λ (x : Forest). x.data_vars) w)
-
-        bare_end_tree : have_no_slots tops.outs ≡ true → OfForest T F1 e2 → (m : Node)
-            → InLanguage output (bare m) → InsidesOf T m → IsEnded F1 e2
-        bare_end_tree z o (node c s ds ps) v u =
-            let w : ps ≡ no_parts = bare_tree c s ds ps z v in
-            record {
-              before = e2;
-              of = o;
-              cell = c;
-              shape = s;
-              datums = ds;
-              parts = ps;
-              tree = v;
-              insides = u;
-              opened = subst (λ (x : Target). at_leaf (λ os. joined_parts bs os (placed_parts f ps)) x e2 ≡ e2) e
-                  (subst (λ (x : Parts). at_root (λ os. joined_parts bs os (placed_parts f x)) j e2 ≡ e2) (sym w)
-                  (joined_none bs j e2));
-            }
-
         j_there : j < length F1.autos
         j_there = subst (λ (m : ℕ). j < m) (sym r.size) (names j (sym e))
 
@@ -323,9 +282,9 @@ module _ (bs : List BoxFace) (T : List BoxDef) (F : Forest) (ranked : Every IsRa
         here : (c : Bool) → have_no_slots tops.outs ≡ c
             → IsIn G (if c then F1 ∷ [] else grown_roots bs F1 j (end_rules F1 i j tops.ends) last tops.outs)
             → (G.vars ≡ F1.vars) × (G.data_vars ≡ F1.data_vars) × IsEnded F1 e2
-        here true z (inl w) =
-            let v = same_vars w in
-            (v.0, v.1, bare_end_tree z (subst (λ (x : Forest). OfForest T x e2) w h) some.0 some.1 some.2)
+        here true z (inl w) = unended F1 (At j) e G w e2 h
+            (λ c s ds ps l. subst (λ (x : Parts). at_root (λ os. joined_parts bs os (placed_parts f x)) j e2 ≡ e2)
+            (sym (bare_tree c s ds ps z l)) (joined_none bs j e2))
         here true z (inr w) = absurd w
         here false z w =
             let m = flat_in (λ (v : Rule). map (grow_root bs F1 j last v) tops.outs) (end_rules F1 i j tops.ends) G w in
@@ -412,11 +371,6 @@ module _ (bs : List BoxFace) (T : List BoxDef) (F : Forest) (ranked : Every IsRa
       pub same_data : G.data_vars ≡ F.data_vars
       pub base : Nodes
       pub of_base : OfForest T F base
-      pub cell : ℕ
-      pub shape : ℕ
-      pub datums : List Datum
-      pub parts : Parts
-      pub at : node_at base i ≡ Some (node cell shape datums parts)
       pub c0 : ℕ
       pub s0 : ℕ
       pub ds0 : List Datum
@@ -426,8 +380,7 @@ module _ (bs : List BoxFace) (T : List BoxDef) (F : Forest) (ranked : Every IsRa
       pub ds1 : List Datum
       pub qs : Parts
       pub ns : Nodes
-      pub has : slice_get (listed parts) p
-          ≡ Some (LinkPart b (more (node c0 s0 ds0 ps) (more (node c1 s1 ds1 qs) ns)) (leaf y))
+      pub part : HasPart base i p (LinkPart b (more (node c0 s0 ds0 ps) (more (node c1 s1 ds1 qs) ns)) (leaf y))
       pub trees : TreesOf T (input ∷ output ∷ inner) (more (node c0 s0 ds0 ps) (more (node c1 s1 ds1 qs) ns))
       pub made : link_opened bs i p y ps qs ns base ≡ e
 
@@ -451,11 +404,6 @@ module _ (bs : List BoxFace) (T : List BoxDef) (F : Forest) (ranked : Every IsRa
           same_data = ap (λ (x : Forest). x.data_vars) o.2 ∙ t.1;
           base = cl.before;
           of_base = cl.of;
-          cell = cl.cell;
-          shape = cl.shape;
-          datums = cl.datums;
-          parts = cl.parts;
-          at = cl.at;
           c0 = w.cell;
           s0 = w.shape;
           ds0 = w.datums;
@@ -465,7 +413,7 @@ module _ (bs : List BoxFace) (T : List BoxDef) (F : Forest) (ranked : Every IsRa
           ds1 = t.2.datums;
           qs = t.2.parts;
           ns = v.1;
-          has = cl.has;
+          part = cl.part;
           trees = (w.tree, w.insides, (t.2.tree, t.2.insides, v.4));
           made = link_is bs i p n y w.parts t.2.parts v.1 cl.before (unlisted x.gained) t.2.before v.0 e
               (long cl.before cl.of) w.is cl.opened t.2.opened v.2;
@@ -475,8 +423,8 @@ module _ (bs : List BoxFace) (T : List BoxDef) (F : Forest) (ranked : Every IsRa
     pub link_from : (G : Forest) → IsIn G (link_unfoldings bs F i p y input output inner tops) → UnfoldsFrom T F i p G
     link_from G k e h =
         let r = replaced G k e h in
-        let g = link_unfolded G r.same_vars r.same_data r.base r.of_base r.cell r.shape r.datums r.parts r.at r.c0 r.s0
-        r.ds0 r.ps r.c1 r.s1 r.ds1 r.qs r.ns r.has in
+        let g = link_unfolded G r.same_vars r.same_data r.base r.of_base r.c0 r.s0 r.ds0 r.ps r.c1 r.s1 r.ds1 r.qs r.ns
+        r.part in
         (r.base, r.of_base, subst (λ (d : Nodes). Unfolded F G i p r.base d) r.made g)
 
     abbrev IntoLink : Nodes → Type 0
@@ -485,20 +433,26 @@ module _ (bs : List BoxFace) (T : List BoxDef) (F : Forest) (ranked : Every IsRa
 
     -- each dressed forest of F is, with the Link replaced, one of some forest of the list
     pub link_into : UnfoldsInto T F i p (link_unfoldings bs F i p y input output inner tops)
-    link_into d h = let t = tree_at T F.autos i d there h in at_top t.0 t.1
+    link_into d h =
+        let x = part_there bs T F ranked i p there one (Link b, q ∷ []) slot d h in
+        let k = is_link (RunOf a.rules) b q x.0 x.2 in
+        let e = k.2 ∙ ap (λ (v : End). LinkPart b k.0 v) (end_is_leaf k.1 y (only (bare_end k.1) k.3)) in
+        let u = subst (PartInside T) e x.3 in
+        opened k.0 (subst (HasPart d i p) e x.1)
+        (subst (λ (v : List Automaton). TreesOf T v k.0)
+        (same_Some u.0.0 (input ∷ output ∷ inner) (sym u.0.1 ∙ is)) u.0.2)
       where
-        opened : (c s : ℕ) (ds : List Datum) (os : Parts) → node_at d i ≡ Some (node c s ds os) → (inside : Nodes)
-            → slice_get (listed os) p ≡ Some (LinkPart b inside (leaf y))
+        opened : (inside : Nodes) → HasPart d i p (LinkPart b inside (leaf y))
             → TreesOf T (input ∷ output ∷ inner) inside → IntoLink d
-        opened c s ds os e no_nodes k u = absurd u
-        opened c s ds os e (more m no_nodes) k u = absurd u.2
-        opened c s ds os e (more (node c0 s0 ds0 ps) (more (node c1 s1 ds1 qs) ns)) k u =
+        opened no_nodes x u = absurd u
+        opened (more m no_nodes) x u = absurd u.2
+        opened (more (node c0 s0 ds0 ps) (more (node c1 s1 ds1 qs) ns)) x u =
             let z = port_to f T input in_right c0 s0 ds0 ps u.0 in
             let o = opened_to bs T F ranked i p there one (Link b, q ∷ []) slot first first_right z.0 z.1
-            d h c s ds os e (placed_parts f ps) z.3
+            d h x.cell x.shape x.datums x.parts x.at (placed_parts f ps) z.3
             (insides_listed T (placed_parts f ps) (insides_placed f T (node c0 s0 ds0 ps) u.1)) in
             let t = ended_to (first_forest z.0) (first_opened z.0 z.1) y refl
-            (at_root (λ x. joined_parts bs x (placed_parts f ps)) i (at_root (parts_without p) i d)) o c1 s1 ds1 qs
+            (at_root (λ os. joined_parts bs os (placed_parts f ps)) i (at_root (parts_without p) i d)) o c1 s1 ds1 qs
             u.2.0 u.2.1 in
             let G : Forest = with_inner (map (placed_auto f) inner) t.0 in
             let D : ℕ → Nodes = λ w. with_all
@@ -516,27 +470,6 @@ module _ (bs : List BoxFace) (T : List BoxDef) (F : Forest) (ranked : Every IsRa
                     (at_leaf (λ os. joined_parts bs os (placed_parts f qs)) y
                     (at_root (λ os. joined_parts bs os (placed_parts f ps)) i (at_root (parts_without p) i d))) ns t.4
                     u.2.2),
-                link_unfolded G t.2 t.3 d h c s ds os e c0 s0 ds0 ps c1 s1 ds1 qs ns k,
+                link_unfolded G t.2 t.3 d h c0 s0 ds0 ps c1 s1 ds1 qs ns x,
               ),
             )
-
-        at_part : (c s : ℕ) (ds : List Datum) (os : Parts) → node_at d i ≡ Some (node c s ds os) → (inside : Nodes)
-            (e : End) → slice_get (listed os) p ≡ Some (LinkPart b inside e) → RunOf a.rules q (bare_end e)
-            → PartInside T (LinkPart b inside e) → IntoLink d
-        at_part c s ds os e inside x k r u =
-            let w : x ≡ leaf y = end_is_leaf x y (only (bare_end x) r) in
-            opened c s ds os e inside (subst (λ (v : End). slice_get (listed os) p ≡ Some (LinkPart b inside v)) w k)
-            (subst (λ (v : List Automaton). TreesOf T v inside)
-            (same_Some u.0.0 (input ∷ output ∷ inner) (sym u.0.1 ∙ is))
-            u.0.2)
-
-        at_top : (m : Node) → node_at d i ≡ Some m → IntoLink d
-        at_top (node c s ds os) e =
-            let t = top_run bs T F ranked i p there one (Link b, q ∷ []) slot d h c s ds os e in
-            let x = item_paired (PlaceOf (RunOf a.rules)) p (rule_places (top_rule a)) (listed os) (Link b, q ∷ []) t.1
-            slot in
-            let k = is_link (RunOf a.rules) b q x.0 x.2 in
-            let s2 : slice_get (listed os) p ≡ Some (LinkPart b k.0 k.1) = x.1 ∙ ap (λ (v : Part). Some v) k.2 in
-            at_part c s ds os e k.0 k.1 s2 k.3
-            (every_in (PartInside T) (listed os) (LinkPart b k.0 k.1) t.2
-            (in_from_place (listed os) p (LinkPart b k.0 k.1) s2))

@@ -7,6 +7,7 @@ use Rattle.fore_base.specs.declared.store.Value.TheVariants.{Dangling as Danglin
 use Rattle.fore_base.proofs.ListLemmas.{every_append, every_parts, every_weaker}
 use Rattle.ta_core.specs.Auto.{Automaton}
 use Rattle.fa_core.specs.declared.faces.Face.{Face}
+use Rattle.fa_core.specs.declared.faces.BoxFace.{BoxFace}
 use Rattle.fa_core.specs.declared.forest.Forest.{Forest}
 use Rattle.fa_core.specs.Boxes.{Boxes, IsBoxTable, faces_of}
 use Rattle.fa_core.specs.Choices.{bares}
@@ -20,7 +21,7 @@ use Rattle.fa_core.proofs.FilledCells.{cells_filled}
 use Rattle.fa_core.proofs.FilledKept.{apart_by, forest_numbers}
 use Rattle.fa_core.proofs.Given.{gives_to}
 use Rattle.fa_core.proofs.Permuted.{distinct_moved, distinct_parts}
-use Rattle.fa_core.proofs.Rearranging.{back, flat_map-append, flat_mapped}
+use Rattle.fa_core.proofs.Rearranging.{back, flat_map-append, flat_mapped, every_moved}
 use Rattle.fa_core.proofs.SeenCells.{HasStruct, NamesOne, PointsTo, SlotsFit, IsFilledCell, one_struct, cell_number}
 use Rattle.fa_core.proofs.SeenCells.{tops_structs, slots_seen}
 use Rattle.fa_facts.proofs.Alike.{alike}
@@ -30,7 +31,6 @@ use Rattle.fa_facts.proofs.FullFacts.{fields_full}
 use Rattle.fa_unfold.specs.Opens.{Item, IsCell, HasSlot, items, opened, Opens}
 use Rattle.fa_unfold.proofs.OpenedOnce.{forest_insides, given_moved, owed_moved, count_once}
 use Rattle.fa_unfold.proofs.Opening.{facts_opened, opens_facts}
-use Rattle.fa_unfold.proofs.PortTrees.{every_same}
 use Rattle.fa_unfold.proofs.UnfoldedMembers.{cell_items, cells_items}
 
 -- the number of a cell
@@ -186,14 +186,14 @@ module _ (face : Face) (all : List SeenCell) where
 module _ (face : Face) (x : Item) (d e : Nodes) (o : Opens x d e) (slot : IsSlotItem x)
     (apart : IsDistinct (map cell_number (cells e))) where
   there_after : Every (IsThere face (cells e)) (items e)
-  there_after = every_same (IsThere face (cells e)) (back (cells_items e))
+  there_after = every_moved (IsThere face (cells e)) (back (cells_items e))
       (there_of face (cells e) (cells e) (λ n t h. h))
 
   -- each cell that is gained is there
   pub gained_there : Every (IsThere face (cells e)) o.gained
   gained_there =
       (every_parts (IsThere face (cells e)) o.gained o.others
-      (every_same (IsThere face (cells e)) o.after there_after)).0
+      (every_moved (IsThere face (cells e)) o.after there_after)).0
 
   slot_there : (y : Item) → IsSlotItem y → IsThere face (cells e) y
   slot_there (IsCell c s ds) h = absurd h
@@ -203,10 +203,10 @@ module _ (face : Face) (x : Item) (d e : Nodes) (o : Opens x d e) (slot : IsSlot
   pub struct_kept : (n t : ℕ) → HasStruct (cells d) n t → HasStruct (cells e) n t
   struct_kept n t h =
       let k = (every_parts (IsThere face (cells e)) o.gained o.others
-      (every_same (IsThere face (cells e)) o.after there_after)).1 in
+      (every_moved (IsThere face (cells e)) o.after there_after)).1 in
       struct_of face (cells e) (cells d) n t
-      (every_same (IsThere face (cells e)) (cells_items d)
-      (every_same (IsThere face (cells e)) (back o.before) (slot_there x slot, k))) h
+      (every_moved (IsThere face (cells e)) (cells_items d)
+      (every_moved (IsThere face (cells e)) (back o.before) (slot_there x slot, k))) h
 
   turned : (y : Item) → FitsHere face (cells d) y → Fits face (cells e) y
   turned (IsCell c s ds) h = tt
@@ -219,8 +219,8 @@ module _ (face : Face) (x : Item) (d e : Nodes) (o : Opens x d e) (slot : IsSlot
   -- the slot that is opened fits its cell
   pub edge_fits : Every (λ c. SlotsFit face (cells d) c.shape c.slots) (cells d) → FitsHere face (cells d) x
   edge_fits h =
-      (every_same (FitsHere face (cells d)) o.before
-      (every_same (FitsHere face (cells d)) (back (cells_items d))
+      (every_moved (FitsHere face (cells d)) o.before
+      (every_moved (FitsHere face (cells d)) (back (cells_items d))
       (fits_here face (cells d) (cells d) (λ n t k. k) h))).0
 
   -- where the slots of all cells fit before, and those that are gained fit, they fit after
@@ -229,16 +229,32 @@ module _ (face : Face) (x : Item) (d e : Nodes) (o : Opens x d e) (slot : IsSlot
       → Every (λ c. SlotsFit face (cells e) c.shape c.slots) (cells e)
   opened_fits h g =
       let a : Every (FitsHere face (cells d)) (items d) =
-      every_same (FitsHere face (cells d)) (back (cells_items d))
+      every_moved (FitsHere face (cells d)) (back (cells_items d))
       (fits_here face (cells d) (cells d) (λ n t k. k) h) in
       let b : Every (FitsHere face (cells d)) (x ∷ o.others) =
-      every_same (FitsHere face (cells d)) o.before a in
+      every_moved (FitsHere face (cells d)) o.before a in
       let c : Every (Fits face (cells e)) o.others =
       every_weaker (FitsHere face (cells d)) (Fits face (cells e)) o.others turned b.1 in
       cells_fit face (cells e) (cells e) (λ n t k. k)
-      (every_same (Fits face (cells e)) (cells_items e)
-      (every_same (Fits face (cells e)) (back o.after)
+      (every_moved (Fits face (cells e)) (cells_items e)
+      (every_moved (Fits face (cells e)) (back o.after)
       (every_append (Fits face (cells e)) o.gained o.others g c)))
+
+-- The cells of a dressed forest of a filled one.
+
+module _ (t : Boxes) (table : IsBoxTable t) (F : Forest) (filled : IsFilled t.face F) (d : Nodes)
+    (of : OfForest t.defs F d) (apart : IsDistinct (map cell_number (cells d))) where
+  abbrev shown : Face
+  shown = record { shapes = t.face.shapes; boxes = faces_of t.defs }
+
+  pub filled_cells : Every (IsFilledCell shown (cells d)) (cells d)
+  filled_cells =
+      let here : IsFilled shown F =
+      subst (λ (bs : List BoxFace). IsFilled (record { shapes = t.face.shapes; boxes = bs }) F) table.faces filled in
+      let k = here.trees (bares d) (choice_of t.defs F.autos d of) in
+      cells_filled shown d
+      (apart_by shown.boxes d (subst IsDistinct (forest_numbers (roots_of d) d) apart))
+      (subst (λ (z : List ℕ). TreesFilled shown (bares d) z 0 (bares d)) (tops_structs d k.tops k.are) k.cells)
 
 -- The fields.
 
@@ -248,18 +264,9 @@ module _ (t : Boxes) (table : IsBoxTable t) (F : Forest) (filled : IsFilled t.fa
   abbrev pub face : Face
   face = record { shapes = t.face.shapes; boxes = faces_of t.defs }
 
-  filled_here : IsFilled face F
-  filled_here = let k = table.faces in
-      subst (λ (z : Face). IsFilled z F) (ap (λ bs. record { shapes = t.face.shapes; boxes = bs }) k) filled
-
   -- the cells before
   pub cells_before : Every (IsFilledCell face (cells d)) (cells d)
-  cells_before =
-      let k = filled_here.trees (bares d) (choice_of t.defs F.autos d of) in
-      let a : IsDistinct (map cell_number (cells d)) = apart_before x d e o slot apart in
-      cells_filled face d
-      (apart_by face.boxes d (subst IsDistinct (forest_numbers (roots_of d) d) a))
-      (subst (λ (z : List ℕ). TreesFilled face (bares d) z 0 (bares d)) (tops_structs d k.tops k.are) k.cells)
+  cells_before = filled_cells t table F filled d of (apart_before x d e o slot apart)
 
   pub edge_before : FitsHere face (cells d) x
   edge_before = edge_fits face x d e o slot apart

@@ -73,32 +73,26 @@ module _ (T : List BoxDef) (vs : List Value) where
 
 -- Facts in another order.
 
+-- a count that adds up over lists goes by no order
+pub sum_moved : {X : Type 0} (m : List X → ℕ) → ((xs ys : List X) → m (xs ++ ys) ≡ m xs + m ys) → {xs ys : List X}
+    → Rearranged xs ys → m xs ≡ m ys
+sum_moved m both empty = refl
+sum_moved m both (keep x {xs} {ys} r) =
+    both (x ∷ []) xs ∙ ap (λ (k : ℕ). m (x ∷ []) + k) (sum_moved m both r) ∙ sym (both (x ∷ []) ys)
+sum_moved m both (swap x y xs) =
+    let a : m (x ∷ y ∷ xs) ≡ m (x ∷ []) + m (y ∷ xs) = both (x ∷ []) (y ∷ xs) in
+    let b : m (y ∷ xs) ≡ m (y ∷ []) + m xs = both (y ∷ []) xs in
+    let d : m (y ∷ x ∷ xs) ≡ m (y ∷ []) + m (x ∷ xs) = both (y ∷ []) (x ∷ xs) in
+    let e : m (x ∷ xs) ≡ m (x ∷ []) + m xs = both (x ∷ []) xs in
+    omega (arith, a, b, d, e)
+sum_moved m both (chain a b) = sum_moved m both a ∙ sum_moved m both b
+
 module _ (hs : List Shape) (c f : ℕ) where
   pub given_moved : {xs ys : List Fact} → Rearranged xs ys → given_n hs c f xs ≡ given_n hs c f ys
-  given_moved empty = refl
-  given_moved (keep x {xs} {ys} r) =
-      given_append hs c f (x ∷ []) xs ∙ ap (λ (k : ℕ). given_n hs c f (x ∷ []) + k) (given_moved r)
-      ∙ sym (given_append hs c f (x ∷ []) ys)
-  given_moved (swap x y xs) =
-      let a = given_append hs c f (x ∷ []) (y ∷ xs) in
-      let b = given_append hs c f (y ∷ []) xs in
-      let d = given_append hs c f (y ∷ []) (x ∷ xs) in
-      let e = given_append hs c f (x ∷ []) xs in
-      omega (arith, a, b, d, e)
-  given_moved (chain a b) = given_moved a ∙ given_moved b
+  given_moved r = sum_moved (given_n hs c f) (given_append hs c f) r
 
   pub owed_moved : {xs ys : List Fact} → Rearranged xs ys → owed_n hs c f xs ≡ owed_n hs c f ys
-  owed_moved empty = refl
-  owed_moved (keep x {xs} {ys} r) =
-      owed_append hs c f (x ∷ []) xs ∙ ap (λ (k : ℕ). owed_n hs c f (x ∷ []) + k) (owed_moved r)
-      ∙ sym (owed_append hs c f (x ∷ []) ys)
-  owed_moved (swap x y xs) =
-      let a = owed_append hs c f (x ∷ []) (y ∷ xs) in
-      let b = owed_append hs c f (y ∷ []) xs in
-      let d = owed_append hs c f (y ∷ []) (x ∷ xs) in
-      let e = owed_append hs c f (x ∷ []) xs in
-      omega (arith, a, b, d, e)
-  owed_moved (chain a b) = owed_moved a ∙ owed_moved b
+  owed_moved r = sum_moved (owed_n hs c f) (owed_append hs c f) r
 
   cond_often : (b : Bool) (g : List ℕ) → often f (cond b g []) ≡ if_so b (often f g)
   cond_often true g = refl

@@ -16,7 +16,7 @@ use Rattle.fa_core.specs.Filled.{IsRoot}
 use Rattle.fa_core.specs.Member.{bare}
 use Rattle.fa_core.specs.Placed.{placed_parts, placed_all}
 use Rattle.fa_core.proofs.Placing.{refs_put, all_refs_placed, count_placed}
-use Rattle.fa_core.proofs.Rearranging.{back, flat_mapped, flat_map-append}
+use Rattle.fa_core.proofs.Rearranging.{back, flat_mapped, flat_map-append, every_moved}
 use Rattle.fa_core.proofs.WaysOf.{tree_roots}
 use Rattle.fa_unfold.specs.Outside.{outside, outside_hook}
 use Rattle.fa_unfold.specs.Parts.{Part, listed}
@@ -27,7 +27,6 @@ use Rattle.fa_unfold.proofs.EdgeParts.{root_refs}
 use Rattle.fa_unfold.proofs.Joins.{joined_same}
 use Rattle.fa_unfold.proofs.OpenedTrees.{refs_at_root}
 use Rattle.fa_unfold.proofs.PartItems.{part_refs, list_refs, slots_refs, refs_without}
-use Rattle.fa_unfold.proofs.PortTrees.{every_same}
 
 count_on : (g : Parts → Parts) (i : ℕ) (d : Nodes) → count (at_root g i d) ≡ count d
 count_on g i no_nodes = refl
@@ -87,7 +86,7 @@ module _ (P : ℕ → Type 0) where
   refs_joined bs os qs h k =
       let xs : List Part = joined (part_key bs) (listed os) (listed qs) in
       subst (Every P) (sym (list_refs xs))
-      (every_same P (back (flat_mapped part_refs (joined_same (part_key bs) (listed os) (listed qs))))
+      (every_moved P (back (flat_mapped part_refs (joined_same (part_key bs) (listed os) (listed qs))))
       (subst (Every P) (sym (flat_map-append part_refs (listed qs) (listed os)))
       (every_append P (flat_map part_refs (listed qs)) (flat_map part_refs (listed os))
       (subst (Every P) (slots_refs qs) k) (subst (Every P) (slots_refs os) h))))

@@ -5,7 +5,7 @@ use Rattle.std.proofs.Common.{slice_get, arith}
 use Rattle.std.proofs.lemmas.Option.{same_Some}
 use Rattle.fore_base.specs.Lists.{IsIn, Every, Paired}
 use Rattle.fore_base.specs.declared.store.Datum.{Datum}
-use Rattle.fore_base.proofs.ListLemmas.{every_in}
+use Rattle.fore_base.proofs.ListLemmas.{every_in, in_from_place}
 use Rattle.ta_core.specs.Auto.{Automaton, IsRanked, IsRankedRule}
 use Rattle.ta_core.specs.Language.{RunOf, InLanguage}
 use Rattle.ta_core.specs.Single.{HasOneTop}
@@ -32,7 +32,7 @@ use Rattle.fa_unfold.specs.Unfolding.{IsTop, open_root, grow_root, with_inner}
 use Rattle.fa_unfold.specs.inner.Trees.{unlisted, part_key, joined_parts, parts_without, on_slots, at_root, with_all}
 use Rattle.fa_unfold.proofs.GrownRoots.{at_set, set_at, lists_joined, IsGrownAt, grown_at, set_from, set_to}
 use Rattle.fa_unfold.proofs.GrownTrees.{IsCellOf, top_rule_of, top_by, rule_runs}
-use Rattle.fa_unfold.proofs.Joins.{put_at, put_back, without_paired}
+use Rattle.fa_unfold.proofs.Joins.{put_at, put_back, without_paired, item_paired}
 use Rattle.fa_unfold.proofs.PartItems.{unlisted_again}
 use Rattle.fa_unfold.proofs.PlaceRuns.{PlaceOf, IsPlace, places_right, without_every}
 use Rattle.fa_unfold.proofs.PortTrees.{PartInside, insides_listed}
@@ -52,6 +52,15 @@ put_at_every P (suc p) x (y ∷ xs) h k = (k.0, put_at_every P p x xs h k.1)
 pub rule_right : (a : Automaton) (x : Rule) → IsRanked a → IsIn x a.rules → Every (IsPlace a.states) (rule_places x)
 rule_right a x r i =
     places_right a.states (symbol_slots x.symbol) x.children (every_in (IsRankedRule a.states) a.rules x r.1 i).1
+
+-- root i of the dressed forest has the slot y at place p
+pub record HasPart (d : Nodes) (i p : ℕ) (y : Part) : Type 0 where
+  pub cell : ℕ
+  pub shape : ℕ
+  pub datums : List Datum
+  pub parts : Parts
+  pub at : node_at d i ≡ Some (node cell shape datums parts)
+  pub has : slice_get (listed parts) p ≡ Some y
 
 module _ (bs : List BoxFace) (T : List BoxDef) (F : Forest) (ranked : Every IsRanked F.autos) where
   -- the tree of a root, slot by slot
@@ -116,6 +125,22 @@ module _ (bs : List BoxFace) (T : List BoxDef) (F : Forest) (ranked : Every IsRa
           k.insides,
         )
 
+    -- each dressed forest has a slot there, by the edge
+    pub part_there : (d : Nodes) → OfForest T F d
+        → (y : Part) × HasPart d i p y × PlaceOf (RunOf a.rules) edge y × PartInside T y
+    part_there d h = let k = tree_at T F.autos i d there h in told k.0 k.1
+      where
+        told : (m : Node) → node_at d i ≡ Some m
+            → (y : Part) × HasPart d i p y × PlaceOf (RunOf a.rules) edge y × PartInside T y
+        told (node c s ds os) e =
+            let t = top_run d h c s ds os e in
+            let x = item_paired (PlaceOf (RunOf a.rules)) p (rule_places top) (listed os) edge t.1 slot in (
+              x.0,
+              record { cell = c; shape = s; datums = ds; parts = os; at = e; has = x.1 },
+              x.2,
+              every_in (PartInside T) (listed os) x.0 t.2 (in_from_place (listed os) p x.0 x.1),
+            )
+
     module _ (b : Automaton) (right : IsRanked b) (z : Rule) (rule : IsIn z b.rules) where
       pub base_right : Every (IsPlace a.states) (without p (rule_places top))
       base_right = without_every (IsPlace a.states) p (rule_places top) (rule_right a top left (top_in a one))
@@ -124,12 +149,7 @@ module _ (bs : List BoxFace) (T : List BoxDef) (F : Forest) (ranked : Every IsRa
       pub record IsClosedBy (gained : List Part) (e : Nodes) (y : Part) : Type 0 where
         pub before : Nodes
         pub of : OfForest T F before
-        pub cell : ℕ
-        pub shape : ℕ
-        pub datums : List Datum
-        pub parts : Parts
-        pub at : node_at before i ≡ Some (node cell shape datums parts)
-        pub has : slice_get (listed parts) p ≡ Some y
+        pub part : HasPart before i p y
         pub opened : at_root (λ os. joined_parts bs os (unlisted gained)) i (at_root (parts_without p) i before) ≡ e
 
       pub record IsClosed (e : Nodes) : Type 0 where
@@ -158,12 +178,14 @@ module _ (bs : List BoxFace) (T : List BoxDef) (F : Forest) (ranked : Every IsRa
                 of = set_from bs T F i there top (without p (rule_places top)) b z left right rule base_right e h g.cell
                     g.shape g.datums ys (top_in a one) (top_root a one) g.is_cell pb.0
                     (put_at_every (PartInside T) p y g.own k g.inner);
-                cell = g.cell;
-                shape = g.shape;
-                datums = g.datums;
-                parts = unlisted ys;
-                at = node_set i e _ n g.at;
-                has = subst (λ (v : List Part). slice_get v p ≡ Some y) (sym again) pb.2;
+                part = record {
+                  cell = g.cell;
+                  shape = g.shape;
+                  datums = g.datums;
+                  parts = unlisted ys;
+                  at = node_set i e _ n g.at;
+                  has = subst (λ (v : List Part). slice_get v p ≡ Some y) (sym again) pb.2;
+                };
                 opened = ap (at_root J i) (set_at (parts_without p) i e _ n g.at)
                     ∙ set_at J i e _ (on_slots (parts_without p) n) g.at
                     ∙ ap (λ (v : Parts). set_node i (node g.cell g.shape g.datums (J v)) e) less

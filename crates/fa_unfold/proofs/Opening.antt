@@ -9,8 +9,9 @@ use Rattle.fore_base.proofs.ListLemmas.{in_right}
 use Rattle.fa_core.specs.Dressed.{Node, Parts, End, Nodes, node, no_parts, field, link, hook, under, leaf, no_nodes}
 use Rattle.fa_core.specs.Dressed.{more, Fact, Head, Points, facts, tree_facts, slot_facts, end_facts, forest_facts}
 use Rattle.fa_core.specs.Dressed.{port_facts, inside_facts, end_value, roots_of}
-use Rattle.fa_core.specs.Rearranged.{Rearranged, empty, keep, swap, chain}
+use Rattle.fa_core.specs.Rearranged.{Rearranged, chain}
 use Rattle.fa_core.proofs.Rearranging.{back, flat_map-append, flat_mapped}
+use Rattle.fa_core.proofs.Permuted.{in_rearranged}
 use Rattle.fa_unfold.specs.Opens.{Item, tree_items, slot_items, end_items, forest_items, items, opened}
 use Rattle.fa_unfold.specs.Opens.{Opens}
 
@@ -75,19 +76,10 @@ opens_facts x d e o =
     subst (λ (z : List Fact). Rearranged (flat_map opened (items e)) (z ++ flat_map opened o.others)) o.same r in
     rw (facts_opened d, facts_opened e) (chain l (back s))
 
-pub in_same : {X : Type 0} (y : X) {xs ys : List X} → Rearranged xs ys → IsIn y xs → IsIn y ys
-in_same y empty h = h
-in_same y (keep x r) (inl p) = inl p
-in_same y (keep x r) (inr h) = inr (in_same y r h)
-in_same y (swap a b xs) (inl p) = inr (inl p)
-in_same y (swap a b xs) (inr (inl p)) = inl p
-in_same y (swap a b xs) (inr (inr h)) = inr (inr h)
-in_same y (chain a b) h = in_same y b (in_same y a h)
-
 -- each item but the opened one stays
 pub opens_keeps : (x : Item) (d e : Nodes) → Opens x d e → (y : Item) → IsIn y (items d) → (y ≡ x) ⊎ IsIn y (items e)
-opens_keeps x d e o y h = here (in_same y o.before h)
+opens_keeps x d e o y h = here (in_rearranged y o.before h)
   where
     here : IsIn y (x ∷ o.others) → (y ≡ x) ⊎ IsIn y (items e)
     here (inl p) = inl p
-    here (inr k) = inr (in_same y (back o.after) (in_right y o.gained o.others k))
+    here (inr k) = inr (in_rearranged y (back o.after) (in_right y o.gained o.others k))

@@ -16,8 +16,8 @@ use Rattle.fa_core.specs.Cells.{is_leaf}
 use Rattle.fa_core.specs.Dressed.{Node, Parts, node, no_parts, field, link, hook}
 use Rattle.fa_core.specs.Member.{InsidesOf, InsidesOfParts, InsidesOfEnd, TreesOf, inside_of, bare, slots_of}
 use Rattle.fa_core.specs.Placed.{placed, placed_parts, placed_auto}
-use Rattle.fa_core.specs.Rearranged.{Rearranged, empty, keep, swap, chain}
 use Rattle.fa_core.proofs.Placing.{in_placed, from_placed, placed_ranked}
+use Rattle.fa_core.proofs.Rearranging.{every_moved}
 use Rattle.fa_unfold.specs.Parts.{Part, FieldPart, LinkPart, HookPart, listed}
 use Rattle.fa_unfold.specs.Slots.{joined, rule_places}
 use Rattle.fa_unfold.specs.Unfolding.{IsTop}
@@ -59,16 +59,10 @@ module _ (T : List BoxDef) where
   insides_unlisted (LinkPart b i e ∷ xs) h = (h.0.0, h.0.1, insides_unlisted xs h.1)
   insides_unlisted (HookPart b i ∷ xs) h = (h.0, insides_unlisted xs h.1)
 
-pub every_same : {X : Type 0} (P : X → Type 0) {xs ys : List X} → Rearranged xs ys → Every P xs → Every P ys
-every_same P empty h = h
-every_same P (keep x r) h = (h.0, every_same P r h.1)
-every_same P (swap x y xs) h = (h.1.0, (h.0, h.1.1))
-every_same P (chain a b) h = every_same P b (every_same P a h)
-
 pub joined_each : {X : Type 0} (P : X → Type 0) (key : X → ℕ) (xs ys : List X) → Every P (joined key xs ys)
     → Every P xs × Every P ys
 joined_each P key xs ys h =
-    let k = every_parts P ys xs (every_same P (joined_same key xs ys) h) in (k.1, k.0)
+    let k = every_parts P ys xs (every_moved P (joined_same key xs ys) h) in (k.1, k.0)
 
 -- Ports.
 

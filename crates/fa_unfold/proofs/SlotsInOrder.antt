@@ -21,13 +21,14 @@ use Rattle.fa_core.specs.Filled.{covers, fields_in, least, least_of, HasField, I
 use Rattle.fa_core.specs.Filled.{Spot, given_at}
 use Rattle.fa_core.specs.Member.{slots_of}
 use Rattle.fa_core.specs.Placed.{placed, placed_parts, placed_end, placed_all}
-use Rattle.fa_core.specs.Rearranged.{Rearranged, empty, keep, swap, chain, RisesFrom, IsRising}
+use Rattle.fa_core.specs.Rearranged.{RisesFrom, IsRising}
 use Rattle.fa_core.specs.Ways.{gives_out_of}
 use Rattle.fa_core.proofs.NodeSpots.{node_spots, parts_spots, end_spots, spots_are}
 use Rattle.fa_core.proofs.Permuted.{distinct_moved, distinct_parts, none_in_both}
 use Rattle.fa_core.proofs.Placing.{slots_placed}
 use Rattle.fa_core.proofs.SeenCells.{slots_seen, slots_seen_are}
 use Rattle.fa_core.proofs.WaysOf.{map-append}
+use Rattle.fa_core.proofs.Rearranging.{mapped}
 use Rattle.fa_unfold.specs.Parts.{Part, FieldPart, LinkPart, HookPart, listed}
 use Rattle.fa_unfold.specs.Slots.{joined, without}
 use Rattle.fa_unfold.specs.inner.Trees.{unlisted, part_slot, part_key, joined_parts, parts_without, at_root, at_leaf}
@@ -89,12 +90,6 @@ module _ {X : Type 0} (key : X → ℕ) where
       rest [] h = tt
       rest (y ∷ ys) h = h.1
   rises_without (suc p) (x ∷ xs) h = from_without p (key x) xs h
-
-map_moved : {X Y : Type 0} (g : X → Y) {xs ys : List X} → Rearranged xs ys → Rearranged (map g xs) (map g ys)
-map_moved g empty = empty
-map_moved g (keep x r) = keep (g x) (map_moved g r)
-map_moved g (swap x y xs) = swap (g x) (g y) (map g xs)
-map_moved g (chain a b) = chain (map_moved g a) (map_moved g b)
 
 -- What the tops of all trees have.
 
@@ -266,7 +261,7 @@ module _ (bs : List BoxFace) where
       let a : IsDistinct (map key (joined key (listed os) (listed qs))) =
       subst (λ (z : List Part). IsDistinct (map key z)) (unlisted_again (joined key (listed os) (listed qs))) h in
       subst IsDistinct (map-append key (listed qs) (listed os))
-      (distinct_moved (map_moved key (joined_same key (listed os) (listed qs))) a)
+      (distinct_moved (mapped key (joined_same key (listed os) (listed qs))) a)
 
   pub joined_apart_of : (os qs : Parts) → KeysApart (joined_parts bs os qs) → KeysApart os
   joined_apart_of os qs h =

@@ -2,7 +2,7 @@
 -- the first forest.
 use Rattle.std.proofs.Common.{◌≡◌, inl, inr, ℕ, zero, suc, ◌<◌, List, [], ◌∷◌, ◌++◌, map, refl, sym, ap, ap₂, subst}
 use Rattle.std.proofs.Common.{◌∙◌, slice_get, Some}
-use Rattle.std.proofs.lemmas.Option.{none-some, same_Some}
+use Rattle.std.proofs.lemmas.Option.{same_Some}
 use Rattle.fore_base.specs.Lists.{IsIn, Every}
 use Rattle.fore_base.specs.declared.store.Value.{Value}
 use Rattle.fore_base.specs.declared.store.Value.TheVariants.{Cell}
@@ -23,6 +23,7 @@ use Rattle.fa_back.specs.Reached.{node_at}
 use Rattle.fa_split.specs.Split.{AreSplit, CanSplit, IsSplitOf, IsTakenOut, end_at, set_end, set_node, split_cells}
 use Rattle.fa_split.specs.Split.{split_leaf, top_parts, with_end, with_last}
 use Rattle.fa_merge.proofs.OtherOrders.{get_mapped}
+use Rattle.fa_merge.proofs.MergedSound.{got_mapped}
 use Rattle.fa_split.proofs.Places.{first_node, node_less, node_set, roots_set, set_count, with_end_number}
 use Rattle.fa_split.proofs.SplitCells.{all_below, refers_well, taken_of, taken_regroups}
 use Rattle.fa_split.proofs.SplitWhole.{all_cases}
@@ -62,19 +63,13 @@ from_seen vs (FieldPart f e) h = h
 from_seen vs (LinkPart b inside e) h = h
 from_seen vs (HookPart b inside) h = h
 
--- the item of which another is the image
-got_mapped : {X Y : Type 0} (g : Y → X) (ys : List Y) (p : ℕ) (x : X) → slice_get (map g ys) p ≡ Some x
-    → (y : Y) × (slice_get ys p ≡ Some y) × (g y ≡ x)
-got_mapped g [] p x e = absurd (none-some x e)
-got_mapped g (y ∷ ys) zero x e = (y, refl, same_Some (g y) x e)
-got_mapped g (y ∷ ys) (suc p) x e = got_mapped g ys p x e
-
 -- where the slots of one list are seen as those of the other, so is the one at each place
 seen_at : (vs ws : List Value) (xs ys : List Part) (p : ℕ) (x : Part)
     → map (part_seen vs) xs ≡ map (part_seen ws) ys → slice_get xs p ≡ Some x
     → (y : Part) × (slice_get ys p ≡ Some y) × (part_seen ws y ≡ part_seen vs x)
-seen_at vs ws xs ys p x e h = got_mapped (part_seen ws) ys p (part_seen vs x)
-    (ap (λ (zs : List Seen). slice_get zs p) (sym e) ∙ get_mapped (part_seen vs) xs p x h)
+seen_at vs ws xs ys p x e h =
+    let k = got_mapped (part_seen ws) ys p (part_seen vs x)
+    (ap (λ (zs : List Seen). slice_get zs p) (sym e) ∙ get_mapped (part_seen vs) xs p x h) in (k.0, k.1, sym k.2)
 
 -- the slot of a cell is a box edge with the item x
 record HasEdge (vs : List Value) (p : ℕ) (x : Item) (c : ℕ) (xs : List Part) : Type 0 where

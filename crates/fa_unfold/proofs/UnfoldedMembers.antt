@@ -1,5 +1,5 @@
 -- Unfolded forests have the same members, and each other cell and slot stays.
-use Rattle.std.proofs.Common.{ℕ, List, ◌∷◌, ◌++◌, map, flat_map, sym, ◌∙◌}
+use Rattle.std.proofs.Common.{◌≡◌, ℕ, List, ◌∷◌, ◌++◌, map, flat_map, sym, ◌∙◌}
 use Rattle.fore_base.specs.Lists.{IsIn}
 use Rattle.fore_base.specs.declared.shape.Shape.{Shape}
 use Rattle.fore_base.specs.declared.store.Store.{Store}
@@ -8,8 +8,8 @@ use Rattle.fa_core.specs.declared.boxes.BoxDef.{BoxDef}
 use Rattle.fa_core.specs.declared.forest.Forest.{Forest}
 use Rattle.fa_core.specs.Dressed.{Node, Parts, End, Nodes, node, no_parts, field, link, hook, under, leaf, no_nodes}
 use Rattle.fa_core.specs.Dressed.{more, end_value, SeenField, SeenLink, SeenHook, SeenCell, seen, cells, tree_cells}
-use Rattle.fa_core.specs.Dressed.{below, end_cells, forest_cells, roots_of}
-use Rattle.fa_core.specs.Member.{Stands}
+use Rattle.fa_core.specs.Dressed.{below, end_cells, forest_cells, roots_of, value_in, facts}
+use Rattle.fa_core.specs.Member.{OfForest, Stands, StandsBy}
 use Rattle.fa_core.specs.Rearranged.{Rearranged, empty, keep, chain}
 use Rattle.fa_core.proofs.Rearranging.{back, both, exchange, flat_map-append, flat_mapped}
 use Rattle.fa_unfold.specs.Opens.{Item, IsCell, HasSlot, tree_items, slot_items, end_items, forest_items, items, Opens}
@@ -83,6 +83,20 @@ regrouped_opens x d e k o r =
 
 -- Members.
 
+-- a store for which F stands by d is one for which G stands by e, where d and e say the same
+pub stands_again : (hs : List Shape) (T : List BoxDef) (F G : Forest) (d e : Nodes) (s : Store) → StandsBy hs T F d s
+    → OfForest T G e → Rearranged (facts e) (facts d)
+    → map (value_in (roots_of d)) F.vars ≡ map (value_in (roots_of e)) G.vars → F.data_vars ≡ G.data_vars
+    → StandsBy hs T G e s
+stands_again hs T F G d e s h of same targets values = record {
+  proper = h.proper;
+  fields = h.fields;
+  of = of;
+  same_facts = chain same h.same_facts;
+  vars = h.vars ∙ targets;
+  data_vars = h.data_vars ∙ values;
+}
+
 module _ (hs : List Shape) (T : List BoxDef) (F : Forest) (root slot : ℕ) where
   -- none is lost
   pub members_into : (Gs : List Forest) → UnfoldsInto T F root slot Gs → (s : Store) → Stands hs T F s
@@ -94,14 +108,8 @@ module _ (hs : List Shape) (T : List BoxDef) (F : Forest) (root slot : ℕ) wher
         w.1,
         (
           w.2.0,
-          record {
-            proper = h.1.proper;
-            fields = h.1.fields;
-            of = w.2.1;
-            same_facts = chain (back (opens_facts o.edge h.0 w.2.0 o.opens)) h.1.same_facts;
-            vars = h.1.vars ∙ o.vars;
-            data_vars = h.1.data_vars ∙ o.data_vars;
-          },
+          stands_again hs T F w.0 h.0 w.2.0 s h.1 w.2.1 (back (opens_facts o.edge h.0 w.2.0 o.opens)) o.vars
+              o.data_vars,
         ),
       )
 
@@ -111,12 +119,5 @@ module _ (hs : List Shape) (T : List BoxDef) (F : Forest) (root slot : ℕ) wher
       let w = u h.0 h.1.of in
       let o = w.2 in (
         w.0,
-        record {
-          proper = h.1.proper;
-          fields = h.1.fields;
-          of = w.1;
-          same_facts = chain (opens_facts o.edge w.0 h.0 o.opens) h.1.same_facts;
-          vars = h.1.vars ∙ sym o.vars;
-          data_vars = h.1.data_vars ∙ sym o.data_vars;
-        },
+        stands_again hs T G F h.0 w.0 s h.1 w.1 (opens_facts o.edge w.0 h.0 o.opens) (sym o.vars) (sym o.data_vars),
       )

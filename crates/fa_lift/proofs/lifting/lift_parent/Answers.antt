@@ -80,26 +80,4 @@ returns-clause-whole c = λ T.
 
 pub returns-clause-members : goal.returns-clause-members
 returns-clause-members c =
-    let s = c.args.forest.now in
-    let F = s.forest in
-    let r = c.args.root in
-    let f = c.args.field in
-    let t = c.in_ok-from.from in
-    let from = c.in_ok-from.ensures in
-    let made = c.in_ok-made.made in
-    let all = c.in_ok-made.ensures.all in
-    let k = c.known.ensures in
-    let well = refers_well s.face F k.sound in
-    union_of F (forests made)
-    (λ T. each_forest (Regroups T F) made
-    (every_weaker (IsLift s.face F r f t) (λ z. Regroups T F z.forest) made
-    (λ z h. lift_regroups s.face.boxes F r f t k.ranked from.there well T z.forest h.0) c.in_ok-made.ensures.each))
-    (λ T. lift_whole s.face.boxes F r f t k.ranked from.there well T
-    (all_edged s.face.boxes r f (component_at F.autos t)
-    (component_has (HasSignatures s.face.boxes) F.autos t k.sound.well_formed.signatures from.there) from.provides)
-    (forests made)
-    (record {
-      tops = λ x p own i u l. among_forests made (lift_top F r t x p) ((all x p own).tops i u l);
-      insides = λ x p own u v l m. (let g = (all x p own).insides u v l m in
-          (g.0, g.1, among_forests made (lift_in F r t x p g.0) g.2));
-    }))
+    union_of c.args.forest.now.forest (forests c.in_ok-made.made) (returns-clause-regroups c) (returns-clause-whole c)

@@ -6,10 +6,10 @@ use Rattle.fa_core.specs.Filled.{HasSome, IsSound}
 use Rattle.fa_sound.specs.Components.{component_at, with_component}
 use Rattle.fa_lift.specs.Lift.{owner}
 use Rattle.fa_lift.proofs.LiftSound.{top_sound}
-use Rattle.fa_lift.proofs.LiftSteps.{has_in, in_has}
 use Rattle.fa_lift.proofs.LiftedRoots.{top_is_lift}
 use Rattle.fa_lift.proofs.lifting.with_top.Goals as goal
 use Rattle.fa_lift.proofs.lifting.with_top.Goals.{then-has+in_ok-top+in_ok-with_component+in_ok-push, else-has}
+use Rattle.fa_back.proofs.RootMarks.{has_in, in_has}
 
 pub with_component-requires-clause-sound : goal.with_component-requires-clause-sound
 with_component-requires-clause-sound c =

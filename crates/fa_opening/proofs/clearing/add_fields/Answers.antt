@@ -1,10 +1,10 @@
 use Rattle.std.proofs.Common.{ℕ, List, sym, ◌∙◌, subst, take, slice_index_or, arith}
 use Rattle.std.proofs.lemmas.List.{take_all, take_more}
-use Rattle.fa_lift.proofs.LiftSteps.{has_in}
 use Rattle.fa_opening.specs.inner.Clearing.{AreIn}
 use Rattle.fa_opening.proofs.ClearedCells.{in_added, in_kept, in_self, in_there}
 use Rattle.fa_opening.proofs.clearing.add_fields.Goals as goal
 use Rattle.fa_opening.proofs.clearing.add_fields.Goals.{then-not-has+in_ok-push, else-not-has}
+use Rattle.fa_back.proofs.RootMarks.{has_in}
 
 pub loop-field-init : goal.loop-field-init
 loop-field-init c = (tt, in_self c.args.fields)

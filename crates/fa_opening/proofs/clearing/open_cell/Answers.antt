@@ -90,9 +90,5 @@ returns-clause-whole c =
 
 pub returns-clause-members : goal.returns-clause-members
 returns-clause-members c =
-    let t = c.args.table.now in
-    let s = c.args.forest.now in
-    members_opened t.face.boxes c.args.root IsAnyField t.defs s.forest (forests c.in_ok-made.made)
-    (cleared_from t c.known-2.ensures c.ranked_insides.ensures c.args.root s.forest c.requires.target
-    c.in_ok-fields.fields c.in_ok-made.made (rw c.as_slice-3.ensures at c.in_ok-made.ensures.each))
-    c.in_ok-made.ensures.whole
+    members_opened c.args.forest.now.face.boxes c.args.root IsAnyField c.args.table.now.defs c.args.forest.now.forest
+    (forests c.in_ok-made.made) (returns-clause-each c) (returns-clause-whole c)

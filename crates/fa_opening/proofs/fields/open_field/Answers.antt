@@ -49,11 +49,5 @@ returns-clause-whole c =
 
 pub returns-clause-members : goal.returns-clause-members
 returns-clause-members c =
-    let s = c.args.forest.now in
-    let m = c.in_ok-bared.ensures in
-    let T = c.args.table.now.defs in
-    members_opened s.face.boxes c.args.root (IsThatField c.args.field) T s.forest (forests c.in_ok-made.made)
-    (shown_from s T c.args.root c.args.field c.requires.target c.in_ok-bared.bared m.vars m.each c.in_ok-made.made
-    (rw c.as_slice.ensures at c.in_ok-made.ensures.each))
-    (shown_whole s T c.args.root c.args.field c.requires.target c.in_ok-bared.bared m.vars m.whole c.in_ok-made.made
-    (rw c.as_slice.ensures at c.in_ok-made.ensures.whole))
+    members_opened c.args.forest.now.face.boxes c.args.root (IsThatField c.args.field) c.args.table.now.defs
+    c.args.forest.now.forest (forests c.in_ok-made.made) (returns-clause-each c) (returns-clause-whole c)

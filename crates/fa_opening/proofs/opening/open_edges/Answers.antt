@@ -124,11 +124,5 @@ returns-clause-whole c =
 
 pub returns-clause-members : goal.returns-clause-members
 returns-clause-members c =
-    let t = c.args.table.now in
-    let F = c.args.forest.now.forest in
-    let z = none_left (length t.defs) c.loop-round._round c.len-round-end.result c.loop-round-test.false
-    c.loop-round.auto._round-end c.len-round-end.ensures in
-    members_opened t.face.boxes c.args.root (IsThatField c.args.field) t.defs F (forests c.loop-round.made)
-    (last_from t c.args.root c.args.field F c.known-2.ensures c.ranked_insides.ensures c.requires.target
-    c.loop-round.made (rw c.as_slice-2.ensures at c.known_each.ensures) (c.loop-round.invariant.0 0 z))
-    c.loop-round.invariant.1
+    members_opened c.args.forest.now.face.boxes c.args.root (IsThatField c.args.field) c.args.table.now.defs
+    c.args.forest.now.forest (forests c.loop-round.made) (returns-clause-each c) (returns-clause-whole c)

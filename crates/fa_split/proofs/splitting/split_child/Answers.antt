@@ -1,5 +1,3 @@
-use Rattle.fore_base.specs.Lists.{Every}
-use Rattle.ta_core.specs.Auto.{IsRanked}
 use Rattle.fa_sound.specs.Unions.{forests}
 use Rattle.fa_split.proofs.SplitCells.{refers_well}
 use Rattle.fa_split.proofs.SplitWhole.{all_vars, all_plain, all_topped, all_dressed, all_regroup, all_whole}
@@ -8,53 +6,38 @@ use Rattle.fa_split.proofs.splitting.split_child.Goals as goal
 
 pub returns-clause-vars : goal.returns-clause-vars
 returns-clause-vars c =
-    let F = c.args.forest.now.forest in
-    let ranked : Every IsRanked F.autos = c.known.ensures.ranked in
-    all_vars F c.args.root c.args.place ranked c.requires.can (forests c.in_ok-made.made) c.in_ok-made.ensures.value
+    all_vars c.args.forest.now.forest c.args.root c.args.place c.known.ensures.ranked c.requires.can
+    (forests c.in_ok-made.made) c.in_ok-made.ensures.value
 
 pub returns-clause-plain : goal.returns-clause-plain
-returns-clause-plain c =
-    let F = c.args.forest.now.forest in
-    let ranked : Every IsRanked F.autos = c.known.ensures.ranked in
-    (λ plain. all_plain F c.args.root c.args.place ranked c.requires.can c.args.forest.now.face c.known.ensures.sound
-    plain (forests c.in_ok-made.made) c.in_ok-made.ensures.value)
+returns-clause-plain c = λ plain.
+    all_plain c.args.forest.now.forest c.args.root c.args.place c.known.ensures.ranked c.requires.can
+    c.args.forest.now.face c.known.ensures.sound plain (forests c.in_ok-made.made) c.in_ok-made.ensures.value
 
 pub returns-clause-tops : goal.returns-clause-tops
 returns-clause-tops c =
-    let F = c.args.forest.now.forest in
-    let ranked : Every IsRanked F.autos = c.known.ensures.ranked in
-    all_topped F c.args.root c.args.place ranked c.requires.can (forests c.in_ok-made.made) c.in_ok-made.ensures.value
+    all_topped c.args.forest.now.forest c.args.root c.args.place c.known.ensures.ranked c.requires.can
+    (forests c.in_ok-made.made) c.in_ok-made.ensures.value
 
 pub returns-clause-dressed : goal.returns-clause-dressed
-returns-clause-dressed c =
-    let F = c.args.forest.now.forest in
-    let ranked : Every IsRanked F.autos = c.known.ensures.ranked in
-    (λ T. all_dressed F c.args.root c.args.place ranked c.requires.can T (forests c.in_ok-made.made)
-    c.in_ok-made.ensures.value)
+returns-clause-dressed c = λ T.
+    all_dressed c.args.forest.now.forest c.args.root c.args.place c.known.ensures.ranked c.requires.can T
+    (forests c.in_ok-made.made) c.in_ok-made.ensures.value
 
 pub returns-clause-regroups : goal.returns-clause-regroups
-returns-clause-regroups c =
+returns-clause-regroups c = λ T.
     let F = c.args.forest.now.forest in
-    let ranked : Every IsRanked F.autos = c.known.ensures.ranked in
-    let well = refers_well c.args.forest.now.face F c.known.ensures.sound in
-    (λ T. all_regroup F c.args.root c.args.place ranked c.requires.can well T (forests c.in_ok-made.made)
-    c.in_ok-made.ensures.value)
+    all_regroup F c.args.root c.args.place c.known.ensures.ranked c.requires.can
+    (refers_well c.args.forest.now.face F c.known.ensures.sound) T (forests c.in_ok-made.made)
+    c.in_ok-made.ensures.value
 
 pub returns-clause-whole : goal.returns-clause-whole
-returns-clause-whole c =
+returns-clause-whole c = λ T.
     let F = c.args.forest.now.forest in
-    let ranked : Every IsRanked F.autos = c.known.ensures.ranked in
-    let well = refers_well c.args.forest.now.face F c.known.ensures.sound in
-    (λ T. all_whole F c.args.root c.args.place ranked c.requires.can well T (forests c.in_ok-made.made)
-    c.in_ok-made.ensures.value)
+    all_whole F c.args.root c.args.place c.known.ensures.ranked c.requires.can
+    (refers_well c.args.forest.now.face F c.known.ensures.sound) T (forests c.in_ok-made.made)
+    c.in_ok-made.ensures.value
 
 pub returns-clause-members : goal.returns-clause-members
 returns-clause-members c =
-    let F = c.args.forest.now.forest in
-    let ranked : Every IsRanked F.autos = c.known.ensures.ranked in
-    let well = refers_well c.args.forest.now.face F c.known.ensures.sound in
-    union_of F (forests c.in_ok-made.made)
-    (λ T. all_regroup F c.args.root c.args.place ranked c.requires.can well T (forests c.in_ok-made.made)
-    c.in_ok-made.ensures.value)
-    (λ T. all_whole F c.args.root c.args.place ranked c.requires.can well T (forests c.in_ok-made.made)
-    c.in_ok-made.ensures.value)
+    union_of c.args.forest.now.forest (forests c.in_ok-made.made) (returns-clause-regroups c) (returns-clause-whole c)
