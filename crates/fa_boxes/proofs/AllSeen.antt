@@ -46,25 +46,23 @@ missing_set [] i x l = absurd (omega (arith, l))
 missing_set (e ∷ es) zero x l = omega arith
 missing_set (e ∷ es) (suc i) x l = let k = missing_set es i x (omega (arith, l)) in omega (arith, k)
 
+-- a mark that was lacking, beside one that stays
+mark_less : (a b : Bool) → a ≡ false → lacks (a || true) + lacks (b || false) < lacks a + lacks b
+mark_less true b h = absurd (true≢false h)
+mark_less false true h = omega arith
+mark_less false false h = omega arith
+
 -- what is new was lacking
 lacking_less : (o : Option Seen) (k : Bool) (ms : List RefMark) (x : Seen) → shows k o ≡ false → Adds o k ms (Some x)
     → lacking (Some x) < lacking o
 lacking_less None true ms x h a = let e = ap lacking a in omega (arith, e)
 lacking_less None false ms x h a = let e = ap lacking a in omega (arith, e)
 lacking_less (Some s) true ms x h a =
-    let e = ap (λ (y : Seen). lacks y.leaf + lacks y.cell) a.1 in let l = here s.leaf s.cell h in omega (arith, e, l)
-  where
-    here : (a b : Bool) → a ≡ false → lacks (a || true) + lacks (b || false) < lacks a + lacks b
-    here true b h = absurd (true≢false h)
-    here false true h = omega arith
-    here false false h = omega arith
+    let e = ap (λ (y : Seen). lacks y.leaf + lacks y.cell) a.1 in
+    let l = mark_less s.leaf s.cell h in omega (arith, e, l)
 lacking_less (Some s) false ms x h a =
-    let e = ap (λ (y : Seen). lacks y.leaf + lacks y.cell) a.1 in let l = here s.leaf s.cell h in omega (arith, e, l)
-  where
-    here : (a b : Bool) → b ≡ false → lacks (a || false) + lacks (b || true) < lacks a + lacks b
-    here a true h = absurd (true≢false h)
-    here true false h = omega arith
-    here false false h = omega arith
+    let e = ap (λ (y : Seen). lacks y.leaf + lacks y.cell) a.1 in
+    let l = mark_less s.cell s.leaf h in omega (arith, e, l)
 
 pub none_seen : (bs : List BoxFace) (rules : List Rule) (n : ℕ) → AreSeen bs rules (replicate n None)
 none_seen bs rules n q s h = absurd (none-some s (sym (copies_or n q None) ∙ h))

@@ -21,7 +21,7 @@ use Rattle.fa_faces.specs.Faults.{box_inside, IsFaultOf}
 use Rattle.fa_faces.specs.declared.fault.FaceFault.{FaceFault}
 use Rattle.fa_faces.specs.declared.fault.FaceFault.TheVariants.{Breaks, Memory}
 use Rattle.fa_faces.specs.inner.Trimmed.{IsTrimOf, AreTrimOf}
-use Rattle.fa_faces.proofs.Trimmed.{rules_trimmed, choice_trimmed, choice_written, trees_trimmed, trees_written}
+use Rattle.fa_faces.proofs.Trimmed.{rules_trimmed, choice_alike, trees_alike}
 use Rattle.fa_faces.proofs.Trimmed.{all_ranked, written_at, trimmed_at, rule_of, part_of, part_run, stood, stood_part}
 use Rattle.fa_faces.proofs.Trimmed.{stood_run}
 
@@ -55,30 +55,30 @@ module _ (face : Face) (T : List BoxDef) (input : ℕ) (output : Option ℕ) (au
   -- What insides say.
 
   reached_written : (x : BoxFace) → IsReached T x mades → IsReached T x autos
-  reached_written x f d c = f d (trees_trimmed T autos mades h d c)
+  reached_written x f d c = f d ((trees_alike T autos mades h d).0 c)
 
   reached_trimmed : (x : BoxFace) → IsReached T x autos → IsReached T x mades
-  reached_trimmed x f d c = f d (trees_written T autos mades h d c)
+  reached_trimmed x f d c = f d ((trees_alike T autos mades h d).1 c)
 
   up_written : LeadsUp T mades → LeadsUp T autos
-  up_written f d c = f d (trees_trimmed T autos mades h d c)
+  up_written f d c = f d ((trees_alike T autos mades h d).0 c)
 
   up_trimmed : LeadsUp T autos → LeadsUp T mades
-  up_trimmed f d c = f d (trees_written T autos mades h d c)
+  up_trimmed f d c = f d ((trees_alike T autos mades h d).1 c)
 
   nowhere_written : LeadsNowhere T mades → LeadsNowhere T autos
-  nowhere_written f d c = f d (trees_trimmed T autos mades h d c)
+  nowhere_written f d c = f d ((trees_alike T autos mades h d).0 c)
 
   nowhere_trimmed : LeadsNowhere T autos → LeadsNowhere T mades
-  nowhere_trimmed f d c = f d (trees_written T autos mades h d c)
+  nowhere_trimmed f d c = f d ((trees_alike T autos mades h d).1 c)
 
   -- Rules.
 
   pub four_written : Breaks4 face trimmed → Breaks4 face written
-  four_written f = (f.0, choice_written autos mades h f.0 f.1, f.2)
+  four_written f = (f.0, (choice_alike autos mades h f.0).1 f.1, f.2)
 
   pub four_trimmed : Breaks4 face written → Breaks4 face trimmed
-  four_trimmed f = (f.0, choice_trimmed autos mades h f.0 f.1, f.2)
+  four_trimmed f = (f.0, (choice_alike autos mades h f.0).0 f.1, f.2)
 
   pub five_written : Breaks5 face T trimmed → Breaks5 face T written
   five_written (takes_leaf b t i l e) = let p = partner_of IsTrimOf autos mades b h i in
@@ -93,7 +93,7 @@ module _ (face : Face) (T : List BoxDef) (input : ℕ) (output : Option ℕ) (au
       signs_apart p.0 (p.2.stands.of q) t u p.1 (part_of p.0 b p.2 q w) (part_run p.0 b p.2 q w t l)
       (part_run p.0 b p.2 q w u k) n
   five_written (gives_apart ts us r c d l n) =
-      gives_apart ts us r (choice_written autos mades h ts c) (choice_written autos mades h us d) l n
+      gives_apart ts us r ((choice_alike autos mades h ts).1 c) ((choice_alike autos mades h us).1 d) l n
   five_written (leads_apart t e n m) = leads_apart t e (λ u. n (up_trimmed u)) (λ u. m (nowhere_trimmed u))
 
   pub five_trimmed : Breaks5 face T written → Breaks5 face T trimmed
@@ -111,14 +111,14 @@ module _ (face : Face) (T : List BoxDef) (input : ℕ) (output : Option ℕ) (au
       signs_apart p.0 s.0 t u p.1 (stood_part a p.0 p.2 q s) (stood_run a p.0 p.2 q s t l)
       (stood_run a p.0 p.2 q s u k) n
   five_trimmed (gives_apart ts us r c d l n) =
-      gives_apart ts us r (choice_trimmed autos mades h ts c) (choice_trimmed autos mades h us d) l n
+      gives_apart ts us r ((choice_alike autos mades h ts).0 c) ((choice_alike autos mades h us).0 d) l n
   five_trimmed (leads_apart t e n m) = leads_apart t e (λ u. n (up_written u)) (λ u. m (nowhere_written u))
 
   pub six_written : Breaks6 face T trimmed → Breaks6 face T written
   six_written (x, o, m, n) = (
     x,
     o,
-    (λ e ts c. m e ts (choice_trimmed autos mades h ts c)),
+    (λ e ts c. m e ts ((choice_alike autos mades h ts).0 c)),
     (λ f. n (reached_trimmed x f)),
   )
 
@@ -144,7 +144,7 @@ module _ (face : Face) (T : List BoxDef) (input : ℕ) (output : Option ℕ) (au
   out_written : (out : Option ℕ) (fields : List ℕ) → GivesOutput face.boxes mades out fields
       → GivesOutput face.boxes autos out fields
   out_written None fields f = f
-  out_written (Some t) fields f = λ ts c. f ts (choice_trimmed autos mades h ts c)
+  out_written (Some t) fields f = λ ts c. f ts ((choice_alike autos mades h ts).0 c)
 
   back_written : (out : Option ℕ) (x : BoxFace) → BackHolds T x out mades → BackHolds T x out autos
   back_written None x f = f
@@ -155,7 +155,7 @@ module _ (face : Face) (T : List BoxDef) (input : ℕ) (output : Option ℕ) (au
   face_written x f = record {
     input = f.input;
     output = f.output;
-    gives_in = λ ts c. f.gives_in ts (choice_trimmed autos mades h ts c);
+    gives_in = λ ts c. f.gives_in ts ((choice_alike autos mades h ts).0 c);
     gives_out = out_written output x.gives_out f.gives_out;
     in_order = f.in_order;
     back = back_written output x f.back;
@@ -172,7 +172,7 @@ module _ (face : Face) (T : List BoxDef) (input : ℕ) (output : Option ℕ) (au
       → IsUnbroken face T written x
   unbroken_written full x f = record {
     full = full;
-    right = λ ts c. f.right ts (choice_trimmed autos mades h ts c);
+    right = λ ts c. f.right ts ((choice_alike autos mades h ts).0 c);
     tops = λ a t i l. (let p = partner_for IsTrimOf autos mades a h i in f.tops p.0 t p.1 ((p.2.language t).0 l));
     structs = λ r s u a t e g l k. (let p = trimmed_at autos mades h r a g in
         f.structs r s u p.0 t e p.1 ((p.2.language t).0 l) k);

@@ -1,5 +1,5 @@
 -- What is carried from trimmed automata to those that are written, and back.
-use Rattle.std.proofs.Common.{◌≡◌, ◌⊎◌, inl, inr, ℕ, zero, suc, ◌<◌, List, [], ◌∷◌, map, length, Some}
+use Rattle.std.proofs.Common.{◌≡◌, ◌↔◌, ◌⊎◌, inl, inr, ℕ, zero, suc, ◌<◌, List, [], ◌∷◌, map, length, Some}
 use Rattle.std.proofs.Common.{slice_get, refl, sym, ap, subst, ◌∙◌}
 use Rattle.std.proofs.lemmas.Option.{none-some, same_Some}
 use Rattle.fore_base.specs.Lists.{IsIn, Every}
@@ -18,7 +18,7 @@ use Rattle.fa_core.specs.declared.faces.Face.{Face}
 use Rattle.fa_core.specs.Boxes.{PortSymbolFits, IsChild, PortRulesFit, InsideRulesFit}
 use Rattle.fa_core.specs.Dressed.{Nodes, no_nodes, more}
 use Rattle.fa_core.specs.Filled.{Choice, HasSome, SymbolFits, RulesFit}
-use Rattle.fa_core.specs.Member.{TreesOf}
+use Rattle.fa_core.specs.Member.{TreesOf, bare}
 use Rattle.fa_faces.specs.inner.Trimmed.{IsTrimOf, AreTrimOf}
 
 -- One automaton.
@@ -156,59 +156,38 @@ module _ (a b : Automaton) (h : IsTrimOf a b) where
 
 -- All of them.
 
-inside_rules : (face : Face) (ports : List (List ℕ)) (autos mades : List Automaton) → AreTrimOf autos mades
-    → InsideRulesFit face ports autos → InsideRulesFit face ports mades
-inside_rules face ports [] [] h f = tt
-inside_rules face ports [] (b ∷ mades) h f = absurd h
-inside_rules face ports (a ∷ autos) [] h f = absurd h
-inside_rules face [] (a ∷ autos) (b ∷ mades) h f =
-    (rules_fit a b h.0 face f.0, inside_rules face [] autos mades h.1 f.1)
-inside_rules face (p ∷ ports) (a ∷ autos) (b ∷ mades) h f =
-    (port_rules_fit a b h.0 face f.0, inside_rules face ports autos mades h.1 f.1)
-
 pub rules_trimmed : (face : Face) (ports : List (List ℕ)) (autos mades : List Automaton) → AreTrimOf autos mades
     → InsideRulesFit face ports autos → InsideRulesFit face ports mades
-rules_trimmed face ports autos mades h f = inside_rules face ports autos mades h f
+rules_trimmed face ports [] [] h f = tt
+rules_trimmed face ports [] (b ∷ mades) h f = absurd h
+rules_trimmed face ports (a ∷ autos) [] h f = absurd h
+rules_trimmed face [] (a ∷ autos) (b ∷ mades) h f =
+    (rules_fit a b h.0 face f.0, rules_trimmed face [] autos mades h.1 f.1)
+rules_trimmed face (p ∷ ports) (a ∷ autos) (b ∷ mades) h f =
+    (port_rules_fit a b h.0 face f.0, rules_trimmed face ports autos mades h.1 f.1)
 
-pub choice_trimmed : (autos mades : List Automaton) → AreTrimOf autos mades → (ts : List Tree) → Choice autos ts
-    → Choice mades ts
-choice_trimmed [] [] h [] c = tt
-choice_trimmed [] [] h (t ∷ ts) c = c
-choice_trimmed [] (b ∷ mades) h ts c = absurd h
-choice_trimmed (a ∷ autos) [] h ts c = absurd h
-choice_trimmed (a ∷ autos) (b ∷ mades) h [] c = c
-choice_trimmed (a ∷ autos) (b ∷ mades) h (t ∷ ts) c =
-    ((h.0.language t).0 c.0, choice_trimmed autos mades h.1 ts c.1)
+-- choices, and trees with their insides, are of the components as they are written and of the trimmed ones alike
+pub choice_alike : (autos mades : List Automaton) → AreTrimOf autos mades → (ts : List Tree)
+    → Choice autos ts ↔ Choice mades ts
+choice_alike [] [] h [] = (λ c. tt, λ c. tt)
+choice_alike [] [] h (t ∷ ts) = (λ c. c, λ c. c)
+choice_alike [] (b ∷ mades) h ts = absurd h
+choice_alike (a ∷ autos) [] h ts = absurd h
+choice_alike (a ∷ autos) (b ∷ mades) h [] = (λ c. c, λ c. c)
+choice_alike (a ∷ autos) (b ∷ mades) h (t ∷ ts) =
+    let e = h.0.language t in
+    let k = choice_alike autos mades h.1 ts in (λ c. (e.0 c.0, k.0 c.1), λ c. (e.1 c.0, k.1 c.1))
 
-pub choice_written : (autos mades : List Automaton) → AreTrimOf autos mades → (ts : List Tree) → Choice mades ts
-    → Choice autos ts
-choice_written [] [] h [] c = tt
-choice_written [] [] h (t ∷ ts) c = c
-choice_written [] (b ∷ mades) h ts c = absurd h
-choice_written (a ∷ autos) [] h ts c = absurd h
-choice_written (a ∷ autos) (b ∷ mades) h [] c = c
-choice_written (a ∷ autos) (b ∷ mades) h (t ∷ ts) c =
-    ((h.0.language t).1 c.0, choice_written autos mades h.1 ts c.1)
-
-pub trees_trimmed : (T : List BoxDef) (autos mades : List Automaton) → AreTrimOf autos mades → (d : Nodes)
-    → TreesOf T autos d → TreesOf T mades d
-trees_trimmed T [] [] h no_nodes c = tt
-trees_trimmed T [] [] h (more n ns) c = c
-trees_trimmed T [] (b ∷ mades) h d c = absurd h
-trees_trimmed T (a ∷ autos) [] h d c = absurd h
-trees_trimmed T (a ∷ autos) (b ∷ mades) h no_nodes c = c
-trees_trimmed T (a ∷ autos) (b ∷ mades) h (more n ns) c =
-    ((h.0.language _).0 c.0, c.1, trees_trimmed T autos mades h.1 ns c.2)
-
-pub trees_written : (T : List BoxDef) (autos mades : List Automaton) → AreTrimOf autos mades → (d : Nodes)
-    → TreesOf T mades d → TreesOf T autos d
-trees_written T [] [] h no_nodes c = tt
-trees_written T [] [] h (more n ns) c = c
-trees_written T [] (b ∷ mades) h d c = absurd h
-trees_written T (a ∷ autos) [] h d c = absurd h
-trees_written T (a ∷ autos) (b ∷ mades) h no_nodes c = c
-trees_written T (a ∷ autos) (b ∷ mades) h (more n ns) c =
-    ((h.0.language _).1 c.0, c.1, trees_written T autos mades h.1 ns c.2)
+pub trees_alike : (T : List BoxDef) (autos mades : List Automaton) → AreTrimOf autos mades → (d : Nodes)
+    → TreesOf T autos d ↔ TreesOf T mades d
+trees_alike T [] [] h no_nodes = (λ c. tt, λ c. tt)
+trees_alike T [] [] h (more n ns) = (λ c. c, λ c. c)
+trees_alike T [] (b ∷ mades) h d = absurd h
+trees_alike T (a ∷ autos) [] h d = absurd h
+trees_alike T (a ∷ autos) (b ∷ mades) h no_nodes = (λ c. c, λ c. c)
+trees_alike T (a ∷ autos) (b ∷ mades) h (more n ns) =
+    let e = h.0.language (bare n) in
+    let k = trees_alike T autos mades h.1 ns in (λ c. (e.0 c.0, c.1, k.0 c.2), λ c. (e.1 c.0, c.1, k.1 c.2))
 
 pub full_trimmed : (autos mades : List Automaton) → AreTrimOf autos mades → Every HasSome autos → Every HasSome mades
 full_trimmed [] [] h f = tt

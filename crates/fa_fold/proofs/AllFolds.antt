@@ -1,5 +1,5 @@
 -- Folds one after another.
-use Rattle.std.proofs.Common.{◌≡◌, ◌⊎◌, ◌<◌, inl, inr, ℕ, suc, List, [], ◌∷◌, ◌++◌, map, length, refl, sym, ap}
+use Rattle.std.proofs.Common.{◌≡◌, ◌⊎◌, ◌<◌, inl, inr, ℕ, List, [], ◌∷◌, ◌++◌, length, refl, sym, ap}
 use Rattle.std.proofs.Common.{Option, subst, ◌∙◌}
 use Rattle.fore_base.specs.declared.shape.Shape.{Shape}
 use Rattle.fore_base.specs.declared.store.Store.{Store}
@@ -10,13 +10,13 @@ use Rattle.fa_core.specs.LeastFolds.{CanFold, FoldsTo, IsLeastFold, OutputUpTo}
 use Rattle.fa_core.specs.Member.{Stands}
 use Rattle.fa_core.specs.declared.folds.FoldStep.{FoldStep}
 use Rattle.fa_core.specs.declared.forest.Forest.{Forest}
-use Rattle.fa_core.specs.declared.forest.Target.{Target}
 use Rattle.fa_sound.specs.Soundness.{SoundForest}
 use Rattle.fa_merge.specs.Reached.{AlwaysLeaks, DoesNoneLeak, HasMembers, NeverLeaks}
 use Rattle.fa_fold.specs.All.{HasAsManyVariables}
 use Rattle.fa_fold.specs.Folds.{IsStepAt}
 use Rattle.fa_fold.specs.Least.{IsLeastSite}
 use Rattle.fa_fold.specs.declared.least.FoldSite.{FoldSite}
+use Rattle.fa_merge.proofs.OtherOrders.{mapped_length}
 
 -- the fold at the least place is the least
 pub least_fold_of : (T : Boxes) (F G : Forest) (s : FoldSite) (x : FoldStep) → IsLeastSite T F s
@@ -43,10 +43,6 @@ folds_more T F G H [] x e last = (H, subst (λ (Z : Forest). IsLeastFold T Z x H
 folds_more T F G H (y ∷ xs) x (E, first, later) last = (E, first, folds_more T E G H xs x later last)
 
 -- a fold keeps the numbers of variables
-mapped_long : (f : Target → Target) (xs : List Target) → length (map f xs) ≡ length xs
-mapped_long f [] = refl
-mapped_long f (x ∷ xs) = ap (λ (k : ℕ). suc k) (mapped_long f xs)
-
 pub folds_variables : (T : Boxes) (F G : Forest) (xs : List FoldStep) → FoldsTo T F xs G → HasAsManyVariables F G
 folds_variables T F G [] e = (
   ap (λ (Z : Forest). length Z.vars) (sym e),
@@ -55,7 +51,7 @@ folds_variables T F G [] e = (
 folds_variables T F G (x ∷ xs) (E, first, later) =
     let rest = folds_variables T E G xs later in
     let f = first.fold in (
-      rest.0 ∙ ap length f.vars ∙ mapped_long (moved_target (number_without f.part.inner)) F.vars,
+      rest.0 ∙ ap length f.vars ∙ mapped_length (moved_target (number_without f.part.inner)) F.vars,
       rest.1 ∙ ap length f.data_vars,
     )
 
@@ -64,13 +60,6 @@ pub record IsFoldedSoFar (T : Boxes) (F G : SoundForest) (xs : List FoldStep) : 
   pub folds : FoldsTo T F.forest xs G.forest
   pub face : G.face ≡ F.face
   pub members : (hs : List Shape) (s : Store) → Stands hs T.defs F.forest s → Stands hs T.defs G.forest s
-
-pub none_so_far : (T : Boxes) (F G : SoundForest) → G ≡ F → IsFoldedSoFar T F G []
-none_so_far T F G e = record {
-  folds = ap (λ (Z : SoundForest). Z.forest) (sym e);
-  face = ap (λ (Z : SoundForest). Z.face) e;
-  members = λ hs s h. subst (λ (Z : SoundForest). Stands hs T.defs Z.forest s) (sym e) h;
-}
 
 pub one_more : (T : Boxes) (F G H : SoundForest) (xs : List FoldStep) (x : FoldStep) → IsFoldedSoFar T F G xs
     → IsLeastFold T G.forest x H.forest → H.face ≡ G.face

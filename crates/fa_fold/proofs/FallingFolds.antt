@@ -1,13 +1,13 @@
 -- A fold takes Field slots from the tops of the forest.
-use Rattle.std.proofs.Common.{◌≡◌, ◌<◌, ◌≤◌, inl, ℕ, zero, suc, ◌+◌, Bool, true, false, nat_eq, if◌then◌else◌, length}
+use Rattle.std.proofs.Common.{◌≡◌, ◌<◌, ◌≤◌, inl, ℕ, zero, suc, ◌+◌, Bool, true, false, length}
 use Rattle.std.proofs.Common.{List, [], ◌∷◌, ◌++◌, map, cond, refl, sym, subst, ◌∙◌, Option, Some, None}
 use Rattle.std.proofs.Common.{slice_get, inr, arith}
-use Rattle.std.proofs.lemmas.Bool.{eqb-true}
 use Rattle.std.proofs.lemmas.Option.{slice_get_within}
 use Rattle.fore_base.specs.Lists.{IsIn}
 use Rattle.fore_base.proofs.ListLemmas.{in_left}
 use Rattle.ta_core.specs.Auto.{Automaton, IsRanked}
 use Rattle.ta_core.specs.Single.{HasOneTop}
+use Rattle.ta_core.specs.declared.symbol.Symbol.TheVariants.{Cell as CellSymbol}
 use Rattle.fa_back.proofs.Dressable.{some_choice}
 use Rattle.fa_core.specs.Boxes.{Boxes, faces_of}
 use Rattle.fa_core.specs.Canonical.{refs_at}
@@ -22,9 +22,8 @@ use Rattle.fa_merge.specs.Reordered.{component_at, counted, place_of, renumber, 
 use Rattle.fa_unfold.specs.Sites.{IsOver}
 use Rattle.fa_folding.specs.Gaining.{edge_place, edge_rules, input_auto, output_auto}
 use Rattle.fa_folding.specs.Made.{folded_autos, folded_component, folded_forest, kept_first, kept_of, new_output}
-use Rattle.fa_folding.specs.Made.{other_auto}
-use Rattle.fa_folding.proofs.FoldMade.{edge_above, input_port, one_here, one_moved, ranked_here, taken_port, top_here}
-use Rattle.fa_folding.proofs.FoldWhole.{same_numbers}
+use Rattle.fa_folding.proofs.FoldMade.{edge_above}
+use Rattle.fa_folding.proofs.FoldWhole.{kept_ranked, kept_one, kept_top, folded_has}
 use Rattle.fa_folding.proofs.Lists.{eq_self}
 use Rattle.fa_folding.proofs.Moving.{moved_auto}
 use Rattle.fa_folding.proofs.Numbers.{counted_above, in_counted, in_kept, kept_in}
@@ -32,6 +31,7 @@ use Rattle.fa_folding.proofs.Orders.{are_further, same_end}
 use Rattle.fa_fold.specs.TopFields.{all_top_fields, top_fields}
 use Rattle.fa_fold.proofs.FewerFields.{gained_fewer, gained_most, moved_fields, place_fields}
 use Rattle.fa_fold.proofs.InputCovers.{IsCovered, input_covers}
+use Rattle.fa_split.specs.Split.{top_rule}
 
 -- Sums.
 
@@ -164,55 +164,30 @@ module _ (t : Boxes) (F : Forest) (over : IsOver t F) (n i : ℕ) (def : BoxDef)
     fs = taken_at p.ports r
 
     ranked : IsRanked b
-    ranked = ranked_here t F over n i def there out g p fit h (same_numbers t F over n i def there out g p fit) r a at
-        low_r own
+    ranked = kept_ranked t F over n i def there out g p fit r a at low_r own
 
     module _ (shape : ℕ) (own_fields : List ℕ) (port : IsPortRoot F.autos r shape own_fields) where
       one_port : HasOneTop b
-      one_port = one_moved h a (one_here t F over n i def there out g p fit h
-          (same_numbers t F over n i def there out g p fit) r a at low_r own shape own_fields port)
+      one_port = kept_one t F over n i def there out g p fit r a at low_r own shape own_fields port
+
+      top : (top_rule b).symbol ≡ CellSymbol shape port.datums port.slots
+      top = kept_top t F over n i def there out g p fit r a at low_r own shape own_fields port
 
       input_most : top_fields (input_auto bs fs n o b) ≤ top_fields b
-      input_most = gained_most bs b ranked one_port shape port.datums port.slots
-          (top_here t F over n i def there out g p fit h
-          (same_numbers t F over n i def there out g p fit) r a at low_r own shape own_fields port) fs
-          (edge_rules b.states o) (edge_place n b.states o ∷ []) (λ x j. (edge_above b ranked n o x j).0)
-          (edge_none n b.states o)
+      input_most = gained_most bs b ranked one_port shape port.datums port.slots top fs (edge_rules b.states o)
+          (edge_place n b.states o ∷ []) (λ x j. (edge_above b ranked n o x j).0) (edge_none n b.states o)
 
       input_fewer : (f : ℕ) → IsIn f fs → IsIn f own_fields → top_fields (input_auto bs fs n o b) < top_fields b
-      input_fewer f j k = gained_fewer bs b ranked one_port shape port.datums port.slots
-          (top_here t F over n i def there out g p fit h
-          (same_numbers t F over n i def there out g p fit) r a at low_r own shape own_fields port) fs
-          (edge_rules b.states o) (edge_place n b.states o ∷ []) (λ x j. (edge_above b ranked n o x j).0)
-          (edge_none n b.states o) f j (port.fields f k)
+      input_fewer f j k = gained_fewer bs b ranked one_port shape port.datums port.slots top fs (edge_rules b.states o)
+          (edge_place n b.states o ∷ []) (λ x j. (edge_above b ranked n o x j).0) (edge_none n b.states o) f j
+          (port.fields f k)
 
       output_most : top_fields (output_auto bs fs b) ≤ top_fields b
-      output_most = gained_most bs b ranked one_port shape port.datums port.slots
-          (top_here t F over n i def there out g p fit h
-          (same_numbers t F over n i def there out g p fit) r a at low_r own shape own_fields port) fs [] []
-          (λ x j. absurd j) refl
-
-    port_of : (x : ℕ) (gs : List ℕ) → fs ≡ x ∷ gs → (s : ℕ) × (own_fields : List ℕ) × IsPortRoot F.autos r s own_fields
-    port_of x gs e = taken_port F.autos p.ports p.shapes r x p.roots (subst (IsIn x) (sym e) (inl refl))
-
-    input_of : nat_eq i r ≡ true → (s : ℕ) × (own_fields : List ℕ) × IsPortRoot F.autos r s own_fields
-    input_of e =
-        let k = input_port bs def i out p.ports p.shapes F.autos p.are_ports p.roots in
-        (k.0, k.1, subst (λ (z : ℕ). IsPortRoot F.autos z k.0 k.1) (eqb-true i r e) k.2)
+      output_most = gained_most bs b ranked one_port shape port.datums port.slots top fs [] [] (λ x j. absurd j) refl
 
     component_most : top_fields (folded_component bs p.ports n i o r b) ≤ top_fields b
-    component_most = here (nat_eq i r) refl
-      where
-        rest : (gs : List ℕ) → fs ≡ gs → top_fields (other_auto bs gs b) ≤ top_fields b
-        rest [] e = omega arith
-        rest (x ∷ gs) e =
-            let k = port_of x gs e in
-            subst (λ (z : List ℕ). top_fields (output_auto bs z b) ≤ top_fields b) e (output_most k.0 k.1 k.2)
-
-        here : (c : Bool) → nat_eq i r ≡ c
-            → top_fields (if c then input_auto bs fs n o b else other_auto bs fs b) ≤ top_fields b
-        here true e = let k = input_of e in input_most k.0 k.1 k.2
-        here false e = rest fs refl
+    component_most = folded_has t F over n i def there out g p fit (λ c. top_fields c ≤ top_fields b) r b (omega arith)
+        input_most output_most
 
   each_most : (r : ℕ) → IsIn r kept → top_fields (folded_component bs p.ports n i o r (m r)) ≤ w r
   each_most r j =

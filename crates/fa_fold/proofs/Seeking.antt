@@ -60,16 +60,6 @@ module _ (T : Boxes) (F : Forest) (n i : ℕ) where
       by None h fits = absurd h
       by (Some b) h fits = by_out b.face.output o h fits
 
-  -- where it has none, none is
-  pub none_named : (b : BoxDef) (o : Option ℕ) → slice_get T.defs n ≡ Some b → b.face.output ≡ None
-      → CanFold T F n i o → o ≡ None
-  none_named b o at none can = by o
-      (subst (λ (z : Option ℕ). OutputFits z o) none (output_right T F n i o b at can))
-    where
-      by : (q : Option ℕ) → OutputFits None q → q ≡ None
-      by None fits = refl
-      by (Some j) fits = absurd fits
-
 -- Searches from below.
 
 -- what is at none below k, and not at k, is at none up to k

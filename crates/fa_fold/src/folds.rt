@@ -1,6 +1,6 @@
 // One fold of a part that is within its box.
 
-ghost use Rattle.std.specs.Prelude.{◌≡◌, ◌<◌, ℕ, List, Some, slice_get, IfOk};
+ghost use Rattle.std.specs.Prelude.{◌≡◌, ◌<◌, List, Some, IfOk};
 ghost use Rattle.fore_base.specs.Lists.{Every};
 ghost use Rattle.fore_base.specs.declared.shape.Shape.{Shape};
 ghost use Rattle.fore_base.specs.declared.store.Store.{Store};
@@ -10,8 +10,7 @@ ghost use Rattle.fa_core.specs.Member.{Stands};
 ghost use Rattle.fa_fold.specs.Folds.{IsStepAt};
 ghost use Rattle.fa_fold.specs.TopFields.{all_top_fields};
 ghost use Rattle.fa_fold.specs.inner.Fields.{AreBoxFields};
-ghost use Rattle.fa_fold.specs.inner.Folds.{IsFoldable, fold_of};
-ghost use Rattle.fa_part.specs.Made.{IsMade};
+ghost use Rattle.fa_fold.specs.inner.Folds.{IsFoldable};
 ghost use Rattle.fa_part.specs.Ports.{AreInnerRoots, IsPortOf, ports_of};
 
 use crate::folded::fold_at;
@@ -81,32 +80,6 @@ pub(crate) fn fold_by(
     forest.known();
     table.known();
     ranked_insides(table);
-    let made = fold_found(alloc, forest, table, fields, box_no, input, output)?;
-    Ok(made)
-}
-
-fn fold_found(
-    alloc: Global,
-    forest: &Sound,
-    table: &BoxTable,
-    fields: &PortFields,
-    box_no: u32,
-    input: u32,
-    output: Option<u32>,
-) -> Mem<(Sound, FoldStep)>
-    requires face { table.now.face ≡ forest.now.face }
-    requires fields { AreBoxFields table.now box_no fields.now }
-    requires can { CanFold table.now forest.now.forest box_no input output }
-    ensures fold { IfOk result
-        (λ made. IsFold table.now.face.boxes table.now.defs forest.now.forest made.1 made.0.forest) }
-    ensures step { IfOk result (λ made. IsStepAt box_no input output made.1) }
-    ensures face { IfOk result (λ made. made.0.face ≡ table.now.face) }
-    ensures falls { IfOk result
-        (λ made. all_top_fields made.0.forest.autos < all_top_fields forest.now.forest.autos) }
-{
-    forest.known();
-    table.known();
-    ranked_insides(table);
     let def = table.box_def(box_no);
     let ports = ports_at(alloc, def, fields, input, output)?;
     match lone_roots(alloc, forest, ports.as_slice())? {
@@ -144,7 +117,7 @@ fn fold_ports(
     ensures fold { IfOk result
         (λ made. IsFold table.now.face.boxes table.now.defs forest.now.forest made.1 made.0.forest) }
     ensures step { IfOk result (λ made. IsStepAt box_no input output made.1) }
-    ensures face { IfOk result (λ made. made.0.face ≡ table.now.face) }
+    ensures face { IfOk result (λ made. made.0.face ≡ forest.now.face) }
     ensures falls { IfOk result
         (λ made. all_top_fields made.0.forest.autos < all_top_fields forest.now.forest.autos) }
 {
