@@ -116,20 +116,17 @@ verdict_not_two Safe e = omega (arith, e)
 verdict_not_two Unsafe e = omega (arith, e)
 verdict_not_two Unknown e = omega (arith, e)
 
-is_safe : (v : Verdict) → verdict_status v ≡ 0 → v ≡ Safe
-is_safe Safe e = refl
-is_safe Unsafe e = absurd (omega (arith, e))
-is_safe Unknown e = absurd (omega (arith, e))
-
-is_unsafe : (v : Verdict) → verdict_status v ≡ 1 → v ≡ Unsafe
-is_unsafe Safe e = absurd (omega (arith, e))
-is_unsafe Unsafe e = refl
-is_unsafe Unknown e = absurd (omega (arith, e))
-
-is_unknown : (v : Verdict) → verdict_status v ≡ 3 → v ≡ Unknown
-is_unknown Safe e = absurd (omega (arith, e))
-is_unknown Unsafe e = absurd (omega (arith, e))
-is_unknown Unknown e = refl
+-- a verdict is told by its status
+verdict_only : (v u : Verdict) → verdict_status u ≡ verdict_status v → u ≡ v
+verdict_only Safe Safe e = refl
+verdict_only Safe Unsafe e = absurd (omega (arith, e))
+verdict_only Safe Unknown e = absurd (omega (arith, e))
+verdict_only Unsafe Safe e = absurd (omega (arith, e))
+verdict_only Unsafe Unsafe e = refl
+verdict_only Unsafe Unknown e = absurd (omega (arith, e))
+verdict_only Unknown Safe e = absurd (omega (arith, e))
+verdict_only Unknown Unsafe e = absurd (omega (arith, e))
+verdict_only Unknown Unknown e = refl
 
 verdict_ends : (v : Verdict) → IsResult (verdict_status v)
 verdict_ends Safe = inl refl
@@ -180,21 +177,12 @@ module _ (r : Request) where
     was_verified NoMemory e not_two h = absurd (omega (arith, e))
 
     -- its verdict is that of the status
-    verdict_is : (a : Answer) (n : ℕ) (v : Verdict) → ((u : Verdict) → verdict_status u ≡ n → u ≡ v) → n < 4
-        → (n ≡ 2 → ⊥) → status_of a ≡ n → IsRight r a → (text : List ℕ) × (a ≡ Verified v text)
-    verdict_is a n v only small not_two e h =
-        let is = was_verified a (omega (arith, e, small)) (λ two. not_two (sym e ∙ two)) h in
-        let same : is.0 ≡ v = only is.0 (ap status_of (sym is.2) ∙ e) in
+    pub verdict_is : (v : Verdict) (a : Answer) → status_of a ≡ verdict_status v → IsRight r a
+        → (text : List ℕ) × (a ≡ Verified v text)
+    verdict_is v a e h =
+        let is = was_verified a (omega (arith, e, verdict_below_four v)) (λ two. verdict_not_two v (sym e ∙ two)) h in
+        let same : is.0 ≡ v = verdict_only v is.0 (ap status_of (sym is.2) ∙ e) in
         (is.1, is.2 ∙ ap (λ u. Verified u is.1) same)
-
-    pub was_safe : (a : Answer) → status_of a ≡ 0 → IsRight r a → (text : List ℕ) × (a ≡ Verified Safe text)
-    was_safe a = verdict_is a 0 Safe is_safe (omega arith) (λ e. omega (arith, e))
-
-    pub was_unsafe : (a : Answer) → status_of a ≡ 1 → IsRight r a → (text : List ℕ) × (a ≡ Verified Unsafe text)
-    was_unsafe a = verdict_is a 1 Unsafe is_unsafe (omega arith) (λ e. omega (arith, e))
-
-    pub was_unknown : (a : Answer) → status_of a ≡ 3 → IsRight r a → (text : List ℕ) × (a ≡ Verified Unknown text)
-    was_unknown a = verdict_is a 3 Unknown is_unknown (omega arith) (λ e. omega (arith, e))
 
   pub was_ran : (a : Answer) → Runs r.words → IsResult (status_of a) → IsRight r a → (o : Outcome) × (a ≡ Ran o)
   was_ran (Verified v text) w e h = absurd (not_verified v text w h)
@@ -631,37 +619,11 @@ module _ (c : Call) (a : Answer) (right : IsRight c.request a) (reads : ReadsOnl
   answers : (b : Answer) → a ≡ b → c.status ≡ status_of a → Answers c b
   answers b is e = subst (Answers c) is (record { right = right; status = e; told = told e })
 
-  reported : (v : Verdict) (text : List ℕ) → Verifies c.request.words → a ≡ Verified v text → c.status ≡ status_of a
-      → Reported c v
-  reported v text asked is e =
-      let done = answers (Verified v text) is e in
-      record { text = text; means = verified_to c.request v text asked done.right; told = done.told }
-
-  summed_up : (v : Verdict) (text : List ℕ) → Generates c.request.words → a ≡ Verified v text
-      → c.status ≡ status_of a → SummedUp c v
-  summed_up v text asked is e =
-      let done = answers (Verified v text) is e in
-      record { text = text; means = generated_to c.request v text asked done.right; told = done.told }
-
-  safe : ((o : Outcome) → IsRight c.request (Ran o) → ⊥) → c.status ≡ 0
-      → (text : List ℕ) × (a ≡ Verified Safe text) × (c.status ≡ status_of a)
-  safe unrun e =
-      let mine = own 0 e (omega arith) in
-      let is = was_safe c.request unrun a (sym mine ∙ e) right in
-      (is.0, is.1, mine)
-
-  unsafe : ((o : Outcome) → IsRight c.request (Ran o) → ⊥) → c.status ≡ 1
-      → (text : List ℕ) × (a ≡ Verified Unsafe text) × (c.status ≡ status_of a)
-  unsafe unrun e =
-      let mine = own 1 e (omega arith) in
-      let is = was_unsafe c.request unrun a (sym mine ∙ e) right in
-      (is.0, is.1, mine)
-
-  unknown : ((o : Outcome) → IsRight c.request (Ran o) → ⊥) → c.status ≡ 3
-      → (text : List ℕ) × (a ≡ Verified Unknown text) × (c.status ≡ status_of a)
-  unknown unrun e =
-      let mine = own 3 e (omega arith) in
-      let is = was_unknown c.request unrun a (sym mine ∙ e) right in
+  verdict : (v : Verdict) → ((o : Outcome) → IsRight c.request (Ran o) → ⊥) → c.status ≡ verdict_status v
+      → (text : List ℕ) × (a ≡ Verified v text) × (c.status ≡ status_of a)
+  verdict v unrun e =
+      let mine = own (verdict_status v) e (omega (arith, verdict_below_four v)) in
+      let is = verdict_is c.request unrun v a (sym mine ∙ e) right in
       (is.0, is.1, mine)
 
   -- where a file is to be verified, and where a program is to be generated, no run is right
@@ -670,6 +632,18 @@ module _ (c : Call) (a : Answer) (right : IsRight c.request a) (reads : ReadsOnl
 
   generates_only : Generates c.request.words → (o : Outcome) → IsRight c.request (Ran o) → ⊥
   generates_only asked o = not_ran_generated c.request o asked
+
+  reported : (v : Verdict) → Verifies c.request.words → c.status ≡ verdict_status v → Reported c v
+  reported v asked e =
+      let is = verdict v (verifies_only asked) e in
+      let done = answers (Verified v is.0) is.1 is.2 in
+      record { text = is.0; means = verified_to c.request v is.0 asked done.right; told = done.told }
+
+  summed_up : (v : Verdict) → Generates c.request.words → c.status ≡ verdict_status v → SummedUp c v
+  summed_up v asked e =
+      let is = verdict v (generates_only asked) e in
+      let done = answers (Verified v is.0) is.1 is.2 in
+      record { text = is.0; means = generated_to c.request v is.0 asked done.right; told = done.told }
 
   ran : Runs c.request.words → IsResult c.status → (o : Outcome) × Answers c (Ran o)
   ran asked e =
@@ -727,7 +701,7 @@ module _ (c : Call) (a : Answer) (right : IsRight c.request a) (reads : ReadsOnl
       | inl (inl e) ↦ inl (inl e)
       | inl (inr (inl e)) ↦ inl (inr e)
       | inl (inr (inr e)) ↦
-          let w = unknown (verifies_only verifies) e in
+          let w = verdict Unknown (verifies_only verifies) e in
           absurd
           (known w.0 (at c.request asked is (Verified Unknown w.0) (subst (IsRight c.request) w.1 right)))
       | inr e ↦ inr e
@@ -805,12 +779,12 @@ module _ (c : Call) (a : Answer) (right : IsRight c.request a) (reads : ReadsOnl
 
   pub promises : Promises c
   promises = record {
-    is_safe = λ asked e. let is = safe (verifies_only asked) e in reported Safe is.0 asked is.1 is.2;
-    is_unsafe = λ asked e. let is = unsafe (verifies_only asked) e in reported Unsafe is.0 asked is.1 is.2;
-    is_unknown = λ asked e. let is = unknown (verifies_only asked) e in reported Unknown is.0 asked is.1 is.2;
-    gen_is_safe = λ asked e. let is = safe (generates_only asked) e in summed_up Safe is.0 asked is.1 is.2;
-    gen_is_unsafe = λ asked e. let is = unsafe (generates_only asked) e in summed_up Unsafe is.0 asked is.1 is.2;
-    gen_is_unknown = λ asked e. let is = unknown (generates_only asked) e in summed_up Unknown is.0 asked is.1 is.2;
+    is_safe = reported Safe;
+    is_unsafe = reported Unsafe;
+    is_unknown = reported Unknown;
+    gen_is_safe = summed_up Safe;
+    gen_is_unsafe = summed_up Unsafe;
+    gen_is_unknown = summed_up Unknown;
     ran = ran;
     asked = asked_by;
     usage = usage;
