@@ -9,12 +9,11 @@ use fa_core::table::BoxTable;
 use fa_fold::fold_all;
 use fa_merge::leaking_root;
 use fa_sound::Sound;
-use fa_unfold::{can_unfold, unfold};
 use fore_base::list::List;
 use par_kit::crew::Crew;
 use par_kit::gate::NoGate;
+use row_boxes::unfolded_letters;
 use row_forests::{boxed_from, letters};
-use row_kit::said;
 use std::alloc::Global;
 use std::thread::Threads;
 
@@ -34,7 +33,7 @@ pub fn canonical_letters<R: Threads + Sync>(
 
 // unfolded ROOT SLOT: which of the wanted forests those are into which the edge at the slot of the root is unfolded,
 // where there is one canonical form.
-pub fn unfolded_letters<R: Threads + Sync>(
+pub fn unfolded_answer<R: Threads + Sync>(
     rt: &R,
     alloc: Global,
     forest: &Sound,
@@ -46,7 +45,7 @@ pub fn unfolded_letters<R: Threads + Sync>(
     requires { table.now.face ≡ forest.now.face }
 {
     let form = only_form(rt, alloc, forest, table)?;
-    unfolded_at(alloc, &form, table, root, slot, wanted)
+    unfolded_letters(alloc, &form, table, root, slot, wanted)
 }
 
 // The canonical form, over the faces of the table, where there is one.
@@ -87,23 +86,5 @@ fn canonical_folded<R: Threads + Sync>(
             };
             Ok(canonical(rt, alloc, &folded, &crew)?)
         }
-    }
-}
-
-fn unfolded_at(
-    alloc: Global,
-    forest: &Sound,
-    table: &BoxTable,
-    root: u32,
-    slot: u32,
-    wanted: &[&str],
-) -> Result<String>
-    requires { table.now.face ≡ forest.now.face }
-{
-    if can_unfold(forest, root, slot as usize) {
-        let made = unfold(alloc, forest, table, root, slot as usize)?;
-        letters(alloc, made.as_slice(), wanted)
-    } else {
-        said(alloc, "refused")
     }
 }

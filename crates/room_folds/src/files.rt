@@ -11,17 +11,9 @@
 
 use anyhow::{Result, bail};
 use fa_core::table::BoxTable;
-use fa_text::read_boxes;
-use fore_base::shape::Shapes;
 use fore_base::text::Text;
-use row_forests::face;
+use row_boxes::{DLL, RING, SEG, TO, table_from};
 use std::alloc::Global;
-
-// No file of these rows is as long.
-const FILE_BYTES: usize = 65536;
-
-const TO: &str = "box to in node out node\nroot 0 s0\ns0 = node(a=s1)\ns1 = ref 1\n\
-    root 1 s0\ns0 = node()\nend\n";
 
 const FAR: &str = "box far in node out node\nroot 0 s0\ns0 = node(@to=s1)\ns1 = ref 1\n\
     root 1 s0\ns0 = node()\nend\n";
@@ -29,19 +21,11 @@ const FAR: &str = "box far in node out node\nroot 0 s0\ns0 = node(@to=s1)\ns1 = 
 const HOP: &str = "box hop in node out node\nroot 0 s0\ns0 = node(a=s1)\ns1 = ref 2\n\
     root 1 s0\ns0 = node()\nroot 2 s0\ns0 = node(a=s1)\ns1 = ref 1\nend\n";
 
-const RING: &str = "box ring in node\nroot 0 s0\ns0 = node(a=s1)\ns1 = ref 0\nend\n";
-
 const PAIR: &str = "box pair in node out node\nroot 0 s0\ns0 = node(a=s1)\ns1 = ref 1\n\
     root 1 s0\ns0 = node(a=s1)\ns1 = ref 0\nend\n";
 
-const DLL: &str = "box dll in pair out pair\nroot 0 s0\ns0 = pair(a=s1)\ns1 = ref 1\n\
-    root 1 s0\ns0 = pair(b=s1)\ns1 = ref 0\nend\n";
-
 const STEP: &str = "box step in pair out pair\nroot 0 s0\ns0 = pair(a=s1)\ns1 = ref 1\n\
     root 1 s0\ns0 = pair()\nend\n";
-
-const SEG: &str = "box seg in pair out pair\nroot 0 s0\ns0 = pair(a=s1,b=s2)\ns1 = ref 1\n\
-    s1 = pair(a=s1,b=s3)\ns2 = ref 1\ns3 = null\nroot 1 s0\ns0 = pair()\nend\n";
 
 const TURN: &str = "box turn in pair\nroot 0 s0\ns0 = pair(b=s1)\ns1 = ref 0\nend\n";
 
@@ -74,18 +58,7 @@ pub fn table_of(alloc: Global, names: &str) -> Result<BoxTable> {
     for name in names.split(' ') {
         text.put(box_of(name)?.as_bytes())?;
     }
-    let face = face(alloc)?;
-    read(alloc, &text, &face.shapes)
-}
-
-fn read(alloc: Global, text: &Text, shapes: &Shapes) -> Result<BoxTable> {
-    if text.len() > FILE_BYTES {
-        bail!("a long file");
-    }
-    match read_boxes(alloc, text.as_slice(), shapes) {
-        Ok(table) => Ok(table),
-        Err(_) => bail!("no file of boxes"),
-    }
+    table_from(alloc, text.as_slice())
 }
 
 fn box_of(name: &str) -> Result<&'static str> {

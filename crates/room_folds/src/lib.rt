@@ -11,7 +11,7 @@ mod files;
 mod folding;
 mod parts;
 
-use crate::canonizing::{canonical_letters, unfolded_letters};
+use crate::canonizing::{canonical_letters, unfolded_answer};
 use crate::files::table_of;
 use crate::folding::folds_answer;
 use crate::parts::{part_letter, site_of, within_answer};
@@ -66,7 +66,7 @@ fn answer_on<R: Threads + Sync>(
         "unfolded" => {
             let root = number_at(head, 1)?;
             let slot = number_at(head, 2)?;
-            unfolded_letters(rt, alloc, forest, table, root, slot, wanted)
+            unfolded_answer(rt, alloc, forest, table, root, slot, wanted)
         }
         _ => bail!("no such kind"),
     }

@@ -4,7 +4,7 @@ ghost use Rattle.std.specs.Prelude.{◌≡◌};
 
 use crate::files::file_of;
 use crate::judging::word_on;
-use crate::opening::{opened, unfolded};
+use crate::opening::opened;
 use crate::parting::letters_over;
 use crate::sampling::member_text;
 use crate::signing::signatures_text;
@@ -13,15 +13,10 @@ use fa_core::table::BoxTable;
 use fa_order::{has_root_kinds, is_canonical};
 use fa_sample::sample;
 use fa_sound::Sound;
-use fa_text::read_boxes;
-use fore_base::shape::Shapes;
-use fore_base::text::Text;
-use row_forests::{boxed_over, face, forest_of};
+use row_boxes::{table_from, unfolded_letters};
+use row_forests::{boxed_over, forest_of};
 use row_kit::{number_at, word_at, yes_or_no};
 use std::alloc::Global;
-
-// No file of these rows is as long.
-const FILE_BYTES: usize = 65536;
 
 // The answer to a row of this head. The first of the texts names the boxes.
 pub fn boxed_answer(alloc: Global, head: &str, forest: &str, texts: &[&str]) -> Result<String> {
@@ -93,7 +88,7 @@ fn answer_at(
     let root = number_at(head, 1)?;
     let number = number_at(head, 2)?;
     match word_at(head, 0)? {
-        "unfolded" => unfolded(alloc, forest, table, root, number, wanted),
+        "unfolded" => unfolded_letters(alloc, forest, table, root, number, wanted),
         "opened" => opened(alloc, forest, table, root, number, wanted),
         _ => bail!("no such kind"),
     }
@@ -124,16 +119,5 @@ fn canonical(alloc: Global, forest: &Sound) -> Result<String> {
 // The table of the boxes of these names.
 fn table_of(alloc: Global, names: &str) -> Result<BoxTable> {
     let text = file_of(alloc, names)?;
-    let face = face(alloc)?;
-    read(alloc, &text, &face.shapes)
-}
-
-fn read(alloc: Global, text: &Text, shapes: &Shapes) -> Result<BoxTable> {
-    if text.len() > FILE_BYTES {
-        bail!("a long file");
-    }
-    match read_boxes(alloc, text.as_slice(), shapes) {
-        Ok(table) => Ok(table),
-        Err(_) => bail!("no file of boxes"),
-    }
+    table_from(alloc, text.as_slice())
 }

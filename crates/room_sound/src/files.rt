@@ -9,24 +9,14 @@
 
 use anyhow::{Result, bail};
 use fore_base::text::Text;
+use row_boxes::{DLL, RING, SEG, TO};
 use std::alloc::Global;
-
-const DLL: &str = "box dll in pair out pair\nroot 0 s0\ns0 = pair(a=s1)\ns1 = ref 1\n\
-    root 1 s0\ns0 = pair(b=s1)\ns1 = ref 0\nend\n";
-
-const SEG: &str = "box seg in pair out pair\nroot 0 s0\ns0 = pair(a=s1,b=s2)\ns1 = ref 1\n\
-    s1 = pair(a=s1,b=s3)\ns2 = ref 1\ns3 = null\nroot 1 s0\ns0 = pair()\nend\n";
 
 const CHAIN: &str = "box chain in pair out pair\nroot 0 s0\ns0 = pair(a=s1,b=s2)\n\
     s1 = pair(a=s2,b=s3)\ns2 = ref 1\ns3 = null\nroot 1 s0\ns0 = pair()\nend\n";
 
-const TO: &str = "box to in node out node\nroot 0 s0\ns0 = node(a=s1)\ns1 = ref 1\n\
-    root 1 s0\ns0 = node()\nend\n";
-
 const OFF: &str = "box off in pair out pair\nroot 0 s0\ns0 = pair(a=s1)\ns1 = ref 1\n\
     root 1 s0\ns0 = pair(b=s1)\ns1 = null\nend\n";
-
-const RING: &str = "box ring in node\nroot 0 s0\ns0 = node(a=s1)\ns1 = ref 0\nend\n";
 
 const TRIO: &str = "box trio in trio out trio\nroot 0 s0\ns0 = trio(a=s1)\ns1 = ref 1\n\
     root 1 s0\ns0 = trio(b=s1)\ns1 = ref 0\nend\n";

@@ -1,4 +1,4 @@
-// A box edge of a root replaced by the inside of its box, and box edges opened for a field of a root.
+// Box edges opened for a field of a root.
 
 ghost use Rattle.std.specs.Prelude.{◌≡◌};
 
@@ -6,30 +6,9 @@ use anyhow::Result;
 use fa_core::table::BoxTable;
 use fa_opening::{can_open, open_edges};
 use fa_sound::Sound;
-use fa_unfold::{can_unfold, unfold};
 use row_forests::letters;
 use row_kit::said;
 use std::alloc::Global;
-
-// unfolded ROOT SLOT: which of the forests behind the boxes those are in which the edge at the slot of the root is
-// replaced, in the order of the wanted ones.
-pub fn unfolded(
-    alloc: Global,
-    forest: &Sound,
-    table: &BoxTable,
-    root: u32,
-    slot: u32,
-    wanted: &[&str],
-) -> Result<String>
-    requires { table.now.face ≡ forest.now.face }
-{
-    if can_unfold(forest, root, slot as usize) {
-        let made = unfold(alloc, forest, table, root, slot as usize)?;
-        letters(alloc, made.as_slice(), wanted)
-    } else {
-        said(alloc, "refused")
-    }
-}
 
 // opened ROOT FIELD: which of the forests behind the boxes those are in which no box edge covers the field of the root
 // or gives it to the root, in the order of the wanted ones.

@@ -9,25 +9,13 @@ ghost use Rattle.std.specs.Prelude.{◌≡◌, IfOk};
 
 use anyhow::{Result, bail};
 use fa_core::table::BoxTable;
-use fa_text::read_boxes;
 use fore_base::shape::Shapes;
-use fore_base::text::Text;
+use row_boxes::{DLL, RING, SEG, table_from, table_over};
 use row_forests::face;
 use std::alloc::Global;
 
-// No file of these rows is as long.
-const FILE_BYTES: usize = 65536;
-
-const DLL: &str = "box dll in pair out pair\nroot 0 s0\ns0 = pair(a=s1)\ns1 = ref 1\n\
-    root 1 s0\ns0 = pair(b=s1)\ns1 = ref 0\nend\n";
-
 const TRIOS: &str = "box dll in trio out trio\nroot 0 s0\ns0 = trio(a=s1)\ns1 = ref 1\n\
     root 1 s0\ns0 = trio(b=s1)\ns1 = ref 0\nend\n";
-
-const SEG: &str = "box seg in pair out pair\nroot 0 s0\ns0 = pair(a=s1,b=s2)\ns1 = ref 1\n\
-    s1 = pair(a=s1,b=s3)\ns2 = ref 1\ns3 = null\nroot 1 s0\ns0 = pair()\nend\n";
-
-const RING: &str = "box ring in node\nroot 0 s0\ns0 = node(a=s1)\ns1 = ref 0\nend\n";
 
 const TOWER: &str = "box to in node out node\nroot 0 s0\ns0 = node(a=s1)\ns1 = ref 1\n\
     root 1 s0\ns0 = node()\nend\n\
@@ -51,17 +39,14 @@ pub fn no_boxes(alloc: Global) -> Result<BoxTable> {
 
 // The boxes of the file of this name, over the structs of rows.
 pub fn table_named(alloc: Global, name: &str) -> Result<BoxTable> {
-    let face = face(alloc)?;
-    table_of(alloc, name, &face.shapes)
+    table_from(alloc, file_of(name)?.as_bytes())
 }
 
 // The boxes of the file of this name, over the structs.
 pub fn table_of(alloc: Global, name: &str, shapes: &Shapes) -> Result<BoxTable>
     ensures { IfOk result (λ table. table.face.shapes ≡ shapes.now) }
 {
-    let mut text = Text::new(alloc);
-    text.put(file_of(name)?.as_bytes())?;
-    read(alloc, &text, shapes)
+    table_over(alloc, file_of(name)?.as_bytes(), shapes)
 }
 
 fn file_of(name: &str) -> Result<&'static str> {
@@ -74,17 +59,5 @@ fn file_of(name: &str) -> Result<&'static str> {
         "twice" => Ok(TWICE),
         "items" => Ok(ITEMS),
         _ => bail!("no such file"),
-    }
-}
-
-fn read(alloc: Global, text: &Text, shapes: &Shapes) -> Result<BoxTable>
-    ensures { IfOk result (λ table. table.face.shapes ≡ shapes.now) }
-{
-    if text.len() > FILE_BYTES {
-        bail!("a long file");
-    }
-    match read_boxes(alloc, text.as_slice(), shapes) {
-        Ok(table) => Ok(table),
-        Err(_) => bail!("no file of boxes"),
     }
 }
