@@ -1,5 +1,6 @@
 // One call of the program over files and two sinks in memory.
 
+use crate::texts::text_of;
 use anyhow::{Context, Result};
 use fore_base::memory::Mem;
 use fore_call::forester;
@@ -114,43 +115,33 @@ pub fn are_alike(left: &Told, right: &Told) -> bool {
         && left.notes.bytes() == right.notes.bytes()
 }
 
-/// The status, and both texts in quotes.
-pub fn shown(alloc: Global, told: &Told) -> Result<String> {
-    let out = text_of(told.out.bytes())?;
-    let notes = text_of(told.notes.bytes())?;
-    Ok(format!(in alloc; "{} {out:?} {notes:?}", told.status)?)
+/// The status, and both texts in quotes; where there is a `last`, of standard output only what stands before it.
+pub fn shown(alloc: Global, told: &Told, last: Option<&str>) -> Result<String> {
+    let (out, mark) = cut(text_of(told.out.bytes())?, last)?;
+    line_of(alloc, told, out, mark)
 }
 
-/// The same, with what is on standard output as far as the end of `last`.
-pub fn shown_until(alloc: Global, told: &Told, last: &str) -> Result<String> {
-    let out = text_of(told.out.bytes())?;
-    let notes = text_of(told.notes.bytes())?;
-    let (before, _) = out
-        .split_once(last)
-        .context("no such text on standard output")?;
-    Ok(format!(in alloc; "{} {before:?}.. {notes:?}", told.status)?)
-}
-
-/// The same, with the report on standard output by the least automata of its components; where there is a `last`, only
-/// what stands before it.
+/// The same, with the report on standard output by the least automata of its components.
 pub fn shown_least(alloc: Global, told: &Told, last: Option<&str>) -> Result<String> {
-    let out = text_of(told.out.bytes())?;
-    let notes = text_of(told.notes.bytes())?;
+    let (out, mark) = cut(text_of(told.out.bytes())?, last)?;
+    let out = least_report(alloc, out)?;
+    line_of(alloc, told, out.as_str(), mark)
+}
+
+/// What stands before `last`, and what is shown of a text that is cut.
+fn cut<'a>(out: &'a str, last: Option<&str>) -> Result<(&'a str, &'static str)> {
     match last {
-        None => {
-            let out = least_report(alloc, out)?;
-            Ok(format!(in alloc; "{} {out:?} {notes:?}", told.status)?)
-        }
+        None => Ok((out, "")),
         Some(last) => {
             let (before, _) = out
                 .split_once(last)
                 .context("no such text on standard output")?;
-            let before = least_report(alloc, before)?;
-            Ok(format!(in alloc; "{} {before:?}.. {notes:?}", told.status)?)
+            Ok((before, ".."))
         }
     }
 }
 
-fn text_of<'a>(bytes: &'a [u8]) -> Result<&'a str> {
-    str::from_utf8(bytes).ok().context("bytes that are no text")
+fn line_of(alloc: Global, told: &Told, out: &str, mark: &str) -> Result<String> {
+    let notes = text_of(told.notes.bytes())?;
+    Ok(format!(in alloc; "{} {out:?}{mark} {notes:?}", told.status)?)
 }

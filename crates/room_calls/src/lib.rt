@@ -31,12 +31,10 @@ mod shelves;
 mod tables;
 mod texts;
 
-use crate::calling::{
-    Ends, STEADY, Told, are_alike, call, call_over, shown, shown_least, shown_until,
-};
+use crate::calling::{Ends, STEADY, Told, are_alike, call, call_over, shown, shown_least};
 use crate::shelves::ChangingShelf;
 use crate::tables::{Varied, noted, prefixes, puts, replaced};
-use crate::texts::main_of;
+use crate::texts::{main_of, text_of};
 use anyhow::{Context, Result, bail};
 use fore_base::fault::Fault;
 use fore_base::text::Text;
@@ -58,10 +56,13 @@ pub fn answer<R: Threads + Sync>(
     let (file, others) = texts.split_first().context("no file")?;
     let file = file_of(alloc, kind, file)?;
     match *kind {
-        "call" | "lines" => steady(rt, alloc, words, &file),
+        "call" | "lines" => steady(rt, alloc, words, &file, None),
         "least" => least(rt, alloc, words, &file, others),
         "component" => component(alloc, &file),
-        "until" => until(rt, alloc, words, &file, others),
+        "until" => {
+            let last = others.first().context("no last text")?;
+            steady(rt, alloc, words, &file, Some(*last))
+        }
         "boxes" => with_boxes(rt, alloc, words, &file, others),
         "alike" => alike(rt, alloc, words, &file, others),
         "changing" => changing(rt, alloc, words, file, others),
@@ -83,9 +84,21 @@ fn file_of(alloc: Global, kind: &str, text: &str) -> Result<Text> {
     }
 }
 
-fn steady<R: Threads + Sync>(rt: &R, alloc: Global, words: &[&str], file: &Text) -> Result<String> {
+/// The number that comes first, and the words behind it.
+fn number_first<'a>(words: &'a [&'a str]) -> Result<(u64, &'a [&'a str])> {
+    let (word, words) = words.split_first().context("a number too few")?;
+    Ok((word.parse::<u64>()?, words))
+}
+
+fn steady<R: Threads + Sync>(
+    rt: &R,
+    alloc: Global,
+    words: &[&str],
+    file: &Text,
+    last: Option<&str>,
+) -> Result<String> {
     let told = call(rt, alloc, words, file.as_slice(), None, STEADY)?;
-    shown(alloc, &told)
+    shown(alloc, &told, last)
 }
 
 fn least<R: Threads + Sync>(
@@ -96,11 +109,7 @@ fn least<R: Threads + Sync>(
     others: &[&str],
 ) -> Result<String> {
     let boxes = boxes_of(alloc, others)?;
-    let boxes = match &boxes {
-        None => None,
-        Some(text) => Some(text.as_slice()),
-    };
-    let told = call(rt, alloc, words, file.as_slice(), boxes, STEADY)?;
+    let told = call(rt, alloc, words, file.as_slice(), bytes_of(&boxes), STEADY)?;
     shown_least(alloc, &told, others.get(1).copied())
 }
 
@@ -112,24 +121,17 @@ fn boxes_of(alloc: Global, others: &[&str]) -> Result<Option<Text>> {
     }
 }
 
-fn component(alloc: Global, report: &Text) -> Result<String> {
-    let report = str::from_utf8(report.as_slice())
-        .ok()
-        .context("bytes that are no text")?;
-    let least = least_report(alloc, report)?;
-    Ok(format!(in alloc; "{least:?}")?)
+/// The bytes of a file that may be there.
+fn bytes_of<'a>(file: &'a Option<Text>) -> Option<&'a [u8]> {
+    match file {
+        None => None,
+        Some(text) => Some(text.as_slice()),
+    }
 }
 
-fn until<R: Threads + Sync>(
-    rt: &R,
-    alloc: Global,
-    words: &[&str],
-    file: &Text,
-    others: &[&str],
-) -> Result<String> {
-    let last = others.first().context("no last text")?;
-    let told = call(rt, alloc, words, file.as_slice(), None, STEADY)?;
-    shown_until(alloc, &told, last)
+fn component(alloc: Global, report: &Text) -> Result<String> {
+    let least = least_report(alloc, text_of(report.as_slice())?)?;
+    Ok(format!(in alloc; "{least:?}")?)
 }
 
 fn with_boxes<R: Threads + Sync>(
@@ -139,11 +141,8 @@ fn with_boxes<R: Threads + Sync>(
     file: &Text,
     others: &[&str],
 ) -> Result<String> {
-    let (read, words) = words.split_first().context("no number of a read")?;
-    let ends = Ends {
-        read: read.parse::<u64>()?,
-        ..STEADY
-    };
+    let (read, words) = number_first(words)?;
+    let ends = Ends { read, ..STEADY };
     let boxes = read_text(alloc, others.first().context("no file of boxes")?)?;
     let told = call(
         rt,
@@ -153,10 +152,7 @@ fn with_boxes<R: Threads + Sync>(
         Some(boxes.as_slice()),
         ends,
     )?;
-    match others.get(1) {
-        Some(last) => shown_until(alloc, &told, last),
-        None => shown(alloc, &told),
-    }
+    shown(alloc, &told, others.get(1).copied())
 }
 
 fn alike<R: Threads + Sync>(
@@ -210,7 +206,7 @@ fn alike_to<R: Threads + Sync>(
     if !are_alike(told, &other) {
         bail!("two calls that tell different things");
     }
-    shown_until(alloc, told, calls.last)
+    shown(alloc, told, Some(calls.last))
 }
 
 fn changing<R: Threads + Sync>(
@@ -223,7 +219,7 @@ fn changing<R: Threads + Sync>(
     let later = read_text(alloc, others.first().context("no later bytes")?)?;
     let mut shelf = ChangingShelf::new(alloc, file, later);
     let told = call_over(rt, alloc, words, &mut shelf, STEADY)?;
-    shown(alloc, &told)
+    shown(alloc, &told, None)
 }
 
 fn failing<R: Threads + Sync>(
@@ -232,22 +228,18 @@ fn failing<R: Threads + Sync>(
     words: &[&str],
     file: &Text,
 ) -> Result<String> {
-    let (most, words) = words.split_first().context("no number of bytes")?;
-    let (read, words) = words.split_first().context("no number of a read")?;
-    let (out, words) = words
-        .split_first()
-        .context("no number of a put to standard output")?;
-    let (notes, words) = words
-        .split_first()
-        .context("no number of a put to standard error")?;
+    let (most, words) = number_first(words)?;
+    let (read, words) = number_first(words)?;
+    let (out, words) = number_first(words)?;
+    let (notes, words) = number_first(words)?;
     let ends = Ends {
-        most: most.parse::<usize>()?,
-        read: read.parse::<u64>()?,
-        out: out.parse::<u64>()?,
-        notes: notes.parse::<u64>()?,
+        most: most as usize,
+        read,
+        out,
+        notes,
     };
     let told = call(rt, alloc, words, file.as_slice(), None, ends)?;
-    shown(alloc, &told)
+    shown(alloc, &told, None)
 }
 
 /// The kinds of many calls over one file that is changed.
@@ -261,16 +253,11 @@ fn answer_tables<'a, R: Threads + Sync>(
 ) -> Result<String> {
     let (statuses, words) = words.split_first().context("no statuses")?;
     let boxes = boxes_of(alloc, others)?;
-    let boxes = match &boxes {
-        None => None,
-        Some(text) => Some(text.as_slice()),
-    };
-    let file = file.as_slice();
     let varied = Varied {
         statuses,
         words,
-        file,
-        boxes,
+        file: file.as_slice(),
+        boxes: bytes_of(&boxes),
         keeps_boxes: kind == "fronts",
     };
     match kind {
@@ -285,14 +272,12 @@ fn each_prefix<R: Threads + Sync>(
     kind: &str,
     varied: &Varied<'_>,
 ) -> Result<String> {
-    let (first, words) = varied.words.split_first().context("no first number")?;
-    let (last, words) = words.split_first().context("no last number")?;
+    let (first, words) = number_first(varied.words)?;
+    let (last, words) = number_first(words)?;
     let varied = Varied { words, ..*varied };
-    let first = first.parse::<usize>()?;
-    let last = last.parse::<usize>()?;
     match kind {
-        "noted" => noted(rt, alloc, &varied, first, last),
-        _ => prefixes(rt, alloc, &varied, first, last),
+        "noted" => noted(rt, alloc, &varied, first as usize, last as usize),
+        _ => prefixes(rt, alloc, &varied, first as usize, last as usize),
     }
 }
 
@@ -302,38 +287,29 @@ fn each_put<R: Threads + Sync>(
     words: &[&str],
     file: &Text,
 ) -> Result<String> {
-    let (most, words) = words.split_first().context("no number of bytes")?;
-    puts(rt, alloc, words, file.as_slice(), most.parse::<usize>()?)
+    let (most, words) = number_first(words)?;
+    puts(rt, alloc, words, file.as_slice(), most as usize)
 }
 
 fn report(alloc: Global, words: &[&str]) -> Result<String> {
-    let (number, words) = words.split_first().context("no number of a fault")?;
-    let (line, words) = words.split_first().context("no line")?;
-    let step = words.first().context("no step")?;
-    let fault = fault_of(number)?;
-    let text = unsafe_report(
-        alloc,
-        fault,
-        line.parse::<u32>()?,
-        step.parse::<u64>()?,
-        &[],
-    )?;
-    let text = str::from_utf8(text.as_slice())
-        .ok()
-        .context("bytes that are no text")?;
+    let (number, words) = number_first(words)?;
+    let (line, words) = number_first(words)?;
+    let (step, _) = number_first(words)?;
+    let text = unsafe_report(alloc, fault_of(number)?, u32::try_from(line)?, step, &[])?;
+    let text = text_of(text.as_slice())?;
     Ok(format!(in alloc; "{text:?}")?)
 }
 
-fn fault_of(number: &str) -> Result<Fault> {
+fn fault_of(number: u64) -> Result<Fault> {
     match number {
-        "1" => Ok(Fault::NullDeref),
-        "2" => Ok(Fault::UninitDeref),
-        "3" => Ok(Fault::DanglingDeref),
-        "4" => Ok(Fault::InvalidFree),
-        "5" => Ok(Fault::DoubleFree),
-        "6" => Ok(Fault::Leak),
-        "7" => Ok(Fault::Assertion),
-        "8" => Ok(Fault::IndetTest),
+        1 => Ok(Fault::NullDeref),
+        2 => Ok(Fault::UninitDeref),
+        3 => Ok(Fault::DanglingDeref),
+        4 => Ok(Fault::InvalidFree),
+        5 => Ok(Fault::DoubleFree),
+        6 => Ok(Fault::Leak),
+        7 => Ok(Fault::Assertion),
+        8 => Ok(Fault::IndetTest),
         _ => bail!("no such fault"),
     }
 }

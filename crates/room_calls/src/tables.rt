@@ -3,6 +3,7 @@
 // What came of them is told by how many there were, if each came out as is wanted, and else by the first that did not.
 
 use crate::calling::{Ends, STEADY, Told, call, shown};
+use crate::texts::text_of;
 use anyhow::{Context, Result, bail};
 use std::alloc::Global;
 use std::thread::Threads;
@@ -113,11 +114,9 @@ fn note_with<R: Threads + Sync>(
 ) -> Result<String> {
     let told = call_with(rt, alloc, varied, bytes)?;
     if !is_wanted(&told, varied.statuses) {
-        return shown(alloc, &told);
+        return shown(alloc, &told, None);
     }
-    let note = str::from_utf8(told.notes.bytes())
-        .ok()
-        .context("bytes that are no text")?;
+    let note = text_of(told.notes.bytes())?;
     Ok(String::from_str(alloc, note.trim_end())?)
 }
 
@@ -207,6 +206,6 @@ fn counted(alloc: Global, count: u64) -> Result<String> {
 
 /// The number of the first that came out otherwise, and what came of it.
 fn missed(alloc: Global, number: usize, told: &Told) -> Result<String> {
-    let shown = shown(alloc, told)?;
+    let shown = shown(alloc, told, None)?;
     Ok(format!(in alloc; "at {number}: {shown}")?)
 }

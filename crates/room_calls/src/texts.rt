@@ -1,6 +1,6 @@
-// Programs from the lines of their main.
+// Programs from the lines of their main, and bytes as text.
 
-use anyhow::Result;
+use anyhow::{Context, Result};
 use fore_base::text::Text;
 use row_texts::read_text;
 use std::alloc::Global;
@@ -18,4 +18,9 @@ pub fn main_of(alloc: Global, lines: &str) -> Result<Text> {
     text.put(lines.as_slice())?;
     text.put(TAIL.as_bytes())?;
     Ok(text)
+}
+
+/// The text of the bytes.
+pub fn text_of<'a>(bytes: &'a [u8]) -> Result<&'a str> {
+    str::from_utf8(bytes).ok().context("bytes that are no text")
 }
