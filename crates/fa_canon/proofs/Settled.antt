@@ -19,10 +19,11 @@ use Rattle.fa_core.proofs.Counts.{in_or_out}
 use Rattle.fa_core.proofs.Dressing.{choice_length}
 use Rattle.fa_back.specs.Reached.{RootReached, by_var, by_tree, by_way}
 use Rattle.fa_back.proofs.ByMarks.{in_var_roots, var_roots_in}
+use Rattle.fa_back.proofs.Pairs.{paired_at}
 use Rattle.fa_back.proofs.RootMarks.{reach_in_mark, reach_refers, way_led}
 use Rattle.fa_order.proofs.CountedMarks.{same_times}
 use Rattle.fa_order.proofs.Following.{one_by_two}
-use Rattle.fa_order.proofs.SameMarks.{AreSigned, met_refers, paired_at, same_roots}
+use Rattle.fa_order.proofs.SameMarks.{AreSigned, met_refers, same_roots}
 use Rattle.fa_canon.specs.inner.Merges.{AreSettled, IsAlone, IsSettled, NoneMerges}
 use Rattle.fa_canon.proofs.RootCounts.{count_two, refer_count, refer_or_not, none_counted}
 

@@ -14,7 +14,7 @@ use Rattle.fa_core.proofs.Permuted.{in_rearranged}
 use Rattle.fa_core.proofs.Rearranging.{back}
 use Rattle.fa_core.proofs.Sorting.{ordered}
 use Rattle.fa_core.proofs.WayParts.{way_roots}
-pub use Rattle.fa_back.proofs.Pairs.{paired_at}
+use Rattle.fa_back.proofs.Pairs.{paired_at}
 use Rattle.fa_back.proofs.RootMarks.{in_once, once_in, flat_in, in_to_root, to_root_in, back_any, any_of_back}
 use Rattle.fa_back.proofs.RootMarks.{mark_in, in_mark, way_led, led_way, reach_in_mark, mark_in_reach}
 
