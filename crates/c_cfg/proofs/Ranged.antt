@@ -1,5 +1,5 @@
 -- Items whose numbers are in range, and the places among them.
-use Rattle.std.proofs.Common.{◌≡◌, ◌<◌, ℕ, Bool, true, false, List, [], ◌∷◌, length, refl, ap, ◌∙◌}
+use Rattle.std.proofs.Common.{◌≡◌, ◌<◌, ℕ, zero, suc, Bool, true, false, List, [], ◌∷◌, length, refl, ap, ◌∙◌}
 use Rattle.std.specs.Prelude.{nat_lt, if◌then◌else◌}
 use Rattle.std.proofs.lemmas.Bool.{and_parts, ltb-true}
 use Rattle.fore_base.specs.Lists.{Every}
@@ -7,6 +7,7 @@ use Rattle.fore_base.proofs.ListLemmas.{every_append}
 use Rattle.c_types.specs.Program.{Program, all_below, atom_typed}
 use Rattle.c_types.specs.Control.{Test, Ask, Not, Both, Either, Items, Done, Do, Close, If, Loop, Again, DoLoop}
 use Rattle.c_types.specs.Control.{DoAgain, Enter, Leave, Exit, ◌then◌, round, do_round, insert, merged, closed_ptrs}
+use Rattle.c_types.specs.Control.{closed_after}
 use Rattle.c_types.specs.Control.{closed_datums, ask, open_before, opened, after_again, from_again}
 use Rattle.c_types.specs.Control.{from_exit}
 use Rattle.c_types.specs.Fits.{ActFits, EnterFits, LeaveFits, ExitFits}
@@ -235,19 +236,30 @@ module _ (p : Program) where
   merged_below n [] ks h k = k
   merged_below n (m ∷ ms) ks h k = insert_below n m (merged ms ks) h.0 (merged_below n ms ks h.1 k)
 
+  -- of the variables of blocks, all of which are below a bound
+  own_below : (own : List ℕ → List ℕ → List ℕ) (bound : ℕ)
+      → ((ps ds : List ℕ) → all_below (length p.vars) ps ≡ true → all_below (length p.data_vars) ds ≡ true
+      → Every (λ x. x < bound) (own ps ds))
+      → (n : ℕ) (is : Items) → Ranged is → Every (λ x. x < bound) (closed_after own n is)
+  own_below own bound each n Done h = tt
+  own_below own bound each n (Do a m is) h = own_below own bound each n is h.1
+  own_below own bound each zero (Close ps ds m is) h =
+      merged_below bound (own ps ds) (closed_after own zero is) (each ps ds h.0 h.1)
+      (own_below own bound each zero is h.2)
+  own_below own bound each (suc n) (Close ps ds m is) h = own_below own bound each (suc n) is h.2
+  own_below own bound each n (If c x y is) h = own_below own bound each n is h.3
+  own_below own bound each n (Loop c k b is) h = own_below own bound each n is h.3
+  own_below own bound each n (Again c k b is) h = tt
+  own_below own bound each n (DoLoop c b is) h = own_below own bound each n is h.2
+  own_below own bound each n (DoAgain c b is) h = tt
+  own_below own bound each n (Enter vs ws m is) h = own_below own bound each (suc n) is h.1
+  own_below own bound each n (Leave v vs a m is) h = own_below own bound each n is h.1
+  own_below own bound each zero (Exit v vs d m is) h = tt
+  own_below own bound each (suc n) (Exit v vs d m is) h = own_below own bound each n is h.1
+
   pub closed_below : (is : Items) → Ranged is → Every (λ x. x < length p.vars) (closed_ptrs is)
       × Every (λ x. x < length p.data_vars) (closed_datums is)
-  closed_below Done h = (tt, tt)
-  closed_below (Do a m is) h = closed_below is h.1
-  closed_below (Close ps ds m is) h = let rest = closed_below is h.2 in (
-    merged_below (length p.vars) ps (closed_ptrs is) (numbers_below (length p.vars) ps h.0) rest.0,
-    merged_below (length p.data_vars) ds (closed_datums is) (numbers_below (length p.data_vars) ds h.1) rest.1,
+  closed_below is h = (
+    own_below (λ ps ds. ps) (length p.vars) (λ ps ds e f. numbers_below (length p.vars) ps e) 0 is h,
+    own_below (λ ps ds. ds) (length p.data_vars) (λ ps ds e f. numbers_below (length p.data_vars) ds f) 0 is h,
   )
-  closed_below (If c x y is) h = closed_below is h.3
-  closed_below (Loop c n b is) h = closed_below is h.3
-  closed_below (Again c n b is) h = (tt, tt)
-  closed_below (DoLoop c b is) h = closed_below is h.2
-  closed_below (DoAgain c b is) h = (tt, tt)
-  closed_below (Enter vs ws m is) h = closed_below is h.1
-  closed_below (Leave v vs a m is) h = closed_below is h.1
-  closed_below (Exit v vs d m is) h = closed_below is h.1

@@ -9,6 +9,7 @@ mod Lifetimes
 mod Data
 mod Choices
 mod Calls
+mod Leaving
 mod CallTyping
 mod Typing
 mod Programs

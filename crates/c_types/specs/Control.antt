@@ -155,32 +155,29 @@ abbrev pub merged : List ℕ → List ℕ → List ℕ
 merged [] ms = ms
 merged (n ∷ ns) ms = insert n (merged ns ms)
 
--- the variables of the Closes before the first Again, which die with `break` and `continue`
+-- The variables that die with `break` and `continue`: of the Closes before the first Again those of the call that goes
+-- on, of its pointer and its data variables those that `own` picks. A call that is still to come hides what it would
+-- close: behind n Enters as many Exits come first. The Exit of its own call ends what is its own. (6.2.4)
+abbrev pub closed_after : (own : List ℕ → List ℕ → List ℕ) → ℕ → Items → List ℕ
+closed_after own n Done = []
+closed_after own n (Do a m is) = closed_after own n is
+closed_after own zero (Close ps ds m is) = merged (own ps ds) (closed_after own zero is)
+closed_after own (suc n) (Close ps ds m is) = closed_after own (suc n) is
+closed_after own n (If c x y is) = closed_after own n is
+closed_after own n (Loop c d b is) = closed_after own n is
+closed_after own n (Again c d b is) = []
+closed_after own n (DoLoop c b is) = closed_after own n is
+closed_after own n (DoAgain c b is) = []
+closed_after own n (Enter vs ws m is) = closed_after own (suc n) is
+closed_after own n (Leave v vs a m is) = closed_after own n is
+closed_after own zero (Exit v vs d m is) = []
+closed_after own (suc n) (Exit v vs d m is) = closed_after own n is
+
 abbrev pub closed_ptrs : Items → List ℕ
-closed_ptrs Done = []
-closed_ptrs (Do a m is) = closed_ptrs is
-closed_ptrs (Close ps ds m is) = merged ps (closed_ptrs is)
-closed_ptrs (If c x y is) = closed_ptrs is
-closed_ptrs (Loop c n b is) = closed_ptrs is
-closed_ptrs (Again c n b is) = []
-closed_ptrs (DoLoop c b is) = closed_ptrs is
-closed_ptrs (DoAgain c b is) = []
-closed_ptrs (Enter vs ws m is) = closed_ptrs is
-closed_ptrs (Leave v vs a m is) = closed_ptrs is
-closed_ptrs (Exit v vs d m is) = closed_ptrs is
+closed_ptrs is = closed_after (λ ps ds. ps) 0 is
 
 abbrev pub closed_datums : Items → List ℕ
-closed_datums Done = []
-closed_datums (Do a m is) = closed_datums is
-closed_datums (Close ps ds m is) = merged ds (closed_datums is)
-closed_datums (If c x y is) = closed_datums is
-closed_datums (Loop c n b is) = closed_datums is
-closed_datums (Again c n b is) = []
-closed_datums (DoLoop c b is) = closed_datums is
-closed_datums (DoAgain c b is) = []
-closed_datums (Enter vs ws m is) = closed_datums is
-closed_datums (Leave v vs a m is) = closed_datums is
-closed_datums (Exit v vs d m is) = closed_datums is
+closed_datums is = closed_after (λ ps ds. ds) 0 is
 
 -- the pointer variables of a list, rising
 abbrev pub ptr_vars : List VarRef → List ℕ

@@ -8,7 +8,7 @@ ghost use Rattle.c_types.specs.declared.program.Func.{Func};
 ghost use Rattle.c_types.specs.declared.program.Stmt.{Stmt};
 ghost use Rattle.c_types.specs.declared.program.Stmt.TheVariants.{Call};
 ghost use Rattle.c_types.specs.Control.{Items, Enter, Exit, all_before, items_by, body_within, items_of, opened};
-ghost use Rattle.c_types.specs.Control.{start_of};
+ghost use Rattle.c_types.specs.Control.{start_of, closed_after};
 ghost use Rattle.c_types.specs.Steps.{Goes, Faults, turn_of};
 ghost use Rattle.c_types.specs.Losses.{loses};
 ghost use Rattle.c_types.specs.Runs.{run, empty_store};
@@ -82,7 +82,8 @@ pub fn steps_keep_stores(program: &Typed)
 }
 
 /// The items of a call are its Enter, those of the statements of its function's body, and its Exit: no function leads
-/// to itself by calls, so to follow calls deeper than there are functions changes nothing.
+/// to itself by calls, so to follow calls deeper than there are functions changes nothing. With a `break` or `continue`
+/// before a call no variable dies of what it would close.
 pub fn calls_end(program: &Typed)
     ensures deeper { (depth : ℕ) (s : Stmt) (r : Items) → length program.now.funcs ≤ depth
         → items_by program.now.funcs (body_within program.now.funcs depth) s r ≡ items_of program.now.funcs s r }
@@ -91,6 +92,9 @@ pub fn calls_end(program: &Typed)
         → items_of program.now.funcs (Call f args target line) r
         ≡ Enter g.params args line
         (all_before (map (items_of program.now.funcs) g.body) (Exit g.result g.params target line r)) }
+    ensures hides { (own : List ℕ → List ℕ → List ℕ) (f : ℕ) (args : List Arg) (target : Option Dest) (line : ℕ)
+        (r : Items) → closed_after own 0 (items_of program.now.funcs (Call f args target line) r)
+        ≡ closed_after own 0 r }
 {
     let _body = &program.body;
 }

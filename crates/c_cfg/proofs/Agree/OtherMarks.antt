@@ -14,7 +14,7 @@ use Rattle.c_types.specs.Program.{Program}
 use Rattle.c_types.specs.Control.{Items, Done, Do, Close, If, Loop, Again, DoLoop, DoAgain, Test, Ask, Not, Both}
 use Rattle.c_types.specs.Control.{Either, Enter, Leave, Exit, ◌then◌, ask, round, do_round, open_before, opened}
 use Rattle.c_types.specs.Control.{after_again, from_again, exit_after, from_exit}
-use Rattle.c_types.specs.Control.{closed_ptrs, closed_datums, merged}
+use Rattle.c_types.specs.Control.{closed_after, closed_ptrs, closed_datums, merged}
 use Rattle.c_types.specs.Steps.{assign, assign_data, free_path, look_at, all_dead, settle, settled, finished, act_turn}
 use Rattle.c_types.specs.Steps.{act_takes, atom_of, atom_takes, test_turn, enter, leave, exit}
 use Rattle.c_types.specs.Runs.{supply, after_turn, at_end, advance, go, own_line}
@@ -78,21 +78,37 @@ module _ (f : ℕ → ℕ) where
   remark_open (Leave v vs a m is) r o = ap (Leave v vs a (f m)) (remark_then is r)
   remark_open (Exit v vs d m is) r o = ap (Exit v vs d (f m)) (remark_then is r)
 
-  -- the end of a round, and which variables die with it
+  -- the end of a round
   remark_round : (is : Items) → (after_again (remark f is) ≡ remark f (after_again is))
       × (from_again (remark f is) ≡ remark f (from_again is))
-      × (closed_ptrs (remark f is) ≡ closed_ptrs is) × (closed_datums (remark f is) ≡ closed_datums is)
-  remark_round Done = (refl, refl, refl, refl)
+  remark_round Done = (refl, refl)
   remark_round (Do a m is) = remark_round is
-  remark_round (Close ps ds m is) = let h = remark_round is in (h.0, h.1, ap (merged ps) h.2, ap (merged ds) h.3)
+  remark_round (Close ps ds m is) = remark_round is
   remark_round (If c x y is) = remark_round is
   remark_round (Loop c n b is) = remark_round is
-  remark_round (Again c n b is) = (refl, refl, refl, refl)
+  remark_round (Again c n b is) = (refl, refl)
   remark_round (DoLoop c b is) = remark_round is
-  remark_round (DoAgain c b is) = (refl, refl, refl, refl)
+  remark_round (DoAgain c b is) = (refl, refl)
   remark_round (Enter vs ws m is) = remark_round is
   remark_round (Leave v vs a m is) = remark_round is
   remark_round (Exit v vs d m is) = remark_round is
+
+  -- which variables die with it
+  remark_closed : (own : List ℕ → List ℕ → List ℕ) (n : ℕ) (is : Items) → closed_after own n (remark f is)
+      ≡ closed_after own n is
+  remark_closed own n Done = refl
+  remark_closed own n (Do a m is) = remark_closed own n is
+  remark_closed own zero (Close ps ds m is) = ap (merged (own ps ds)) (remark_closed own zero is)
+  remark_closed own (suc n) (Close ps ds m is) = remark_closed own (suc n) is
+  remark_closed own n (If c x y is) = remark_closed own n is
+  remark_closed own n (Loop c k b is) = remark_closed own n is
+  remark_closed own n (Again c k b is) = refl
+  remark_closed own n (DoLoop c b is) = remark_closed own n is
+  remark_closed own n (DoAgain c b is) = refl
+  remark_closed own n (Enter vs ws m is) = remark_closed own (suc n) is
+  remark_closed own n (Leave v vs a m is) = remark_closed own n is
+  remark_closed own zero (Exit v vs d m is) = refl
+  remark_closed own (suc n) (Exit v vs d m is) = remark_closed own n is
 
   pub remark_after : (is : Items) → after_again (remark f is) ≡ remark f (after_again is)
   remark_after is = (remark_round is).0
@@ -169,8 +185,10 @@ module _ (f : ℕ → ℕ) where
         → after_turn (settle (kill (closed_ptrs (remark f is)) (closed_datums (remark f is)) s) ks) line step next
         ≡ after_turn (settle (kill (closed_ptrs is) (closed_datums is) s) js) line step other
     round_same is js ks s e =
-        ap (λ ps. after_turn (settle (kill ps (closed_datums (remark f is)) s) ks) line step next) (remark_round is).2
-        ∙ ap (λ ds. after_turn (settle (kill (closed_ptrs is) ds s) ks) line step next) (remark_round is).3
+        ap (λ ps. after_turn (settle (kill ps (closed_datums (remark f is)) s) ks) line step next)
+        (remark_closed (λ ps ds. ps) 0 is)
+        ∙ ap (λ ds. after_turn (settle (kill (closed_ptrs is) ds s) ks) line step next)
+        (remark_closed (λ ps ds. ds) 0 is)
         ∙ settle_same (kill (closed_ptrs is) (closed_datums is) s) js ks e
 
     act_same : (shapes : List Shape) (mode : MallocMode) (a : Act) (is : Items) (s : Store) (x : ℕ)
