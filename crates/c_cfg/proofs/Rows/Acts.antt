@@ -9,7 +9,8 @@ use Rattle.c_types.specs.declared.program.Act.{Act}
 use Rattle.c_types.specs.declared.program.Act.TheVariants.{SetPtr, SetData, Free as FreeAct, Error, Halt, Return, Break}
 use Rattle.c_types.specs.declared.program.Act.TheVariants.{Continue}
 use Rattle.c_types.specs.declared.program.Atom.TheVariants.{Choice as ChoiceAtom}
-use Rattle.c_types.specs.Control.{Items, Done, Close, If, Again, DoAgain, Ask}
+use Rattle.c_types.specs.declared.program.VarRef.TheVariants.{Ptr as PtrRef, Data as DataRef}
+use Rattle.c_types.specs.Control.{Items, Done, Close, If, Again, DoAgain, Ask, Enter, Leave, Exit}
 use Rattle.c_cfg.specs.declared.graph.PtrArg.TheVariants.{Var as PtrVar, Null as PtrNull}
 use Rattle.c_cfg.specs.declared.graph.DataArg.TheVariants.{Var as ArgVar, Known as ArgKnown}
 use Rattle.c_cfg.specs.declared.graph.Const.TheVariants.{Null as ConstNull, Known as ConstKnown}
@@ -213,6 +214,13 @@ breaks = refl
 
 continues : act_row 10 20 Continue left ≡ One (Kill (2 ∷ 7 ∷ 9 ∷ []) (4 ∷ 5 ∷ [])) ∷ []
 continues = refl
+
+-- and none of a call that is still to come, nor of one that it makes
+breaks_before_a_call : act_row 10 20 Break
+    (Enter [] [] 1 (Close (0 ∷ []) (0 ∷ []) 1 (Enter [] [] 1 (Close (8 ∷ []) (8 ∷ []) 1 (Exit None [] None 1
+    (Leave None (PtrRef 6 ∷ DataRef 6 ∷ []) None 1 (Exit None [] None 1 left)))))))
+    ≡ One (Kill (2 ∷ 7 ∷ 9 ∷ []) (4 ∷ 5 ∷ [])) ∷ []
+breaks_before_a_call = refl
 
 breaks_out_of_do : act_row 10 20 Break
     (Close (7 ∷ []) [] 1 (DoAgain (Ask ChoiceAtom 5) Done (Close (3 ∷ []) [] 6 Done))) ≡ One (Kill (7 ∷ []) []) ∷ []
