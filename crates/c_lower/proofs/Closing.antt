@@ -1,5 +1,5 @@
 -- Which variables die in the rest of a round, a statement at a time.
-use Rattle.std.specs.Prelude.{get_or, drop, pred}
+use Rattle.std.specs.Prelude.{get_or, drop}
 use Rattle.std.proofs.Common.{◌≡◌, ℕ, zero, suc, ◌+◌, ◌<◌, ◌≤◌, List, [], ◌∷◌, length, refl, sym, ap, ◌∙◌, arith}
 use Rattle.std.proofs.Common.{Option, Some, None, slice_get}
 use Rattle.c_types.specs.declared.program.Act.{Act}
@@ -9,13 +9,13 @@ use Rattle.c_types.specs.declared.program.Arg.{Arg}
 use Rattle.c_types.specs.declared.program.Dest.{Dest}
 use Rattle.c_types.specs.declared.program.Stmt.TheVariants.{Do as DoStmt, Branch, While, DoWhile, For, Group, Call}
 use Rattle.c_types.specs.declared.program.Func.{Func}
-use Rattle.c_types.specs.Control.{Items, Done, Exit, closes, act_items, body_within, insert, merged}
-use Rattle.c_types.proofs.Composing.{act_composed}
-use Rattle.c_types.proofs.Layers.{by-Do, by-Branch, by-While, by-DoWhile, by-For, by-Group}
+use Rattle.c_types.specs.Control.{Items, Done, Exit, closes, act_items, call_items, body_within, insert, merged}
+use Rattle.c_types.proofs.Composing.{Composes, act_composed, body_composed}
+use Rattle.c_types.proofs.Layers.{by-Do, by-Branch, by-While, by-DoWhile, by-For, by-Group, by-Call}
 use Rattle.c_types.proofs.Standing.{all_stand}
 use Rattle.c_lower.specs.declared.around.Around.{Around}
-use Rattle.c_lower.specs.inner.Emitting.{inside, closed, reached, items_one, items_in, inside_stmt, inside_all}
-use Rattle.c_lower.proofs.Standing.{items-more, call_is, call_none}
+use Rattle.c_lower.specs.inner.Emitting.{dying, datums_of, inside, closed, items_one, items_in, inside_stmt, inside_all}
+use Rattle.c_lower.proofs.Standing.{items-more, stmt_whole, all_whole}
 use Rattle.c_lower.proofs.Joined.{inside_both}
 use Rattle.std.proofs.lemmas.List.{drop_all}
 
@@ -27,7 +27,38 @@ closes_closed w _ _ m = refl
 abbrev ClosesNone : (Items → Items) → Type 0
 ClosesNone f = (w : Around) → inside w (f Done) ≡ w
 
+-- within a call that is still to come no block counts
+abbrev IsHidden : (Items → Items) → Type 0
+IsHidden f = (own : List ℕ → List ℕ → List ℕ) (n : ℕ) (r : Items) (base : List ℕ)
+    → dying own (suc n) (f r) base ≡ dying own (suc n) r base
+
+hidden : Composes IsHidden
+hidden = record {
+  none = λ own n r base. refl;
+  both = λ f g h k own n r base. h own n (g r) base ∙ k own n r base;
+  act = λ a m own n r base. refl;
+  close = λ ps ds m own n r base. refl;
+  branch = λ c f g h k own n r base. refl;
+  loop = λ c f g h k own n r base. refl;
+  do_loop = λ c f h own n r base. refl;
+  leave = λ g value m own n r base. refl;
+  call = λ g args to' m f h own n r base. h own (suc n) (Exit g.result g.params to' m r) base;
+}
+
 module _ (funcs : List Func) where
+  call_closes : (deep : ℕ) (o : Option Func) (args : List Arg) (to' : Option Dest) (m : ℕ)
+      → ClosesNone (call_items (body_within funcs deep) o args to' m)
+  call_closes deep None args to' m w = refl
+  call_closes deep (Some g) args to' m w =
+      let body = body_composed IsHidden hidden funcs deep g.body in
+      let last = Exit g.result g.params to' m Done in
+      ap (λ (ps : List ℕ). in_place ps (datums_of (call_items (body_within funcs deep) (Some g) args to' m Done) w.datums))
+      (body (λ ps ds. ps) 0 last w.ptrs)
+      ∙ ap (λ (ds : List ℕ). in_place w.ptrs ds) (body (λ ps ds. ds) 0 last w.datums)
+    where
+      in_place : List ℕ → List ℕ → Around
+      in_place ps ds = record { leave = w.leave; again = w.again; ptrs = ps; datums = ds; back = w.back }
+
   act_closes : (a : Act) (m : ℕ) → ClosesNone (act_items funcs a m)
   act_closes = act_composed ClosesNone (λ a m w. refl) (λ g value m w. refl) funcs
 
@@ -39,7 +70,7 @@ module _ (funcs : List Func) where
         ≡ inside_stmt funcs deep (inside_all funcs deep w ss) s
     unfolding inside_all inside_stmt
     inside-more w s ss = ap (inside w) (items-more funcs deep s ss)
-        ∙ inside_both w (items_one funcs deep s) (items_in funcs deep ss)
+        ∙ inside_both 0 (items_one funcs deep s) (stmt_whole funcs deep s 0 Done refl) w (items_in funcs deep ss)
 
     pub inside-none : (w : Around) → inside_all funcs deep w [] ≡ w
     unfolding inside_all
@@ -50,7 +81,7 @@ module _ (funcs : List Func) where
     unfolding inside_stmt inside_all
     inside-Group w b ps ds m =
         ap (inside w) (by-Group funcs under b ps ds m Done ∙ all_stand funcs deep b Done (closes ps ds m Done))
-        ∙ inside_both w (items_in funcs deep b) (closes ps ds m Done)
+        ∙ inside_both 0 (items_in funcs deep b) (all_whole funcs deep b 0 Done refl) w (closes ps ds m Done)
         ∙ ap (λ v. inside v (items_in funcs deep b)) (closes_closed w ps ds m)
 
     pub inside-Do : (w : Around) (a : Act) (line : ℕ) → inside_stmt funcs deep w (DoStmt a line) ≡ w
@@ -73,20 +104,12 @@ module _ (funcs : List Func) where
     unfolding inside_stmt
     inside-For w c n b = ap (inside w) (by-For funcs under c n b Done)
 
-    -- the blocks of a called body end too
-    pub inside-Call : (w : Around) (f : ℕ) (args : List Arg) (to' : Option Dest) (line : ℕ) (g : Func)
-        → slice_get funcs f ≡ Some g
-        → inside_stmt funcs deep w (Call f args to' line)
-        ≡ inside_all funcs (pred deep) w (reached deep g.body)
-    unfolding inside_stmt inside_all
-    inside-Call w f args to' line g e =
-        ap (inside w) (call_is funcs deep f args to' line g e)
-        ∙ inside_both w (items_in funcs (pred deep) (reached deep g.body)) (Exit g.result g.params to' line Done)
-
-    pub inside-Call-none : (w : Around) (f : ℕ) (args : List Arg) (to' : Option Dest) (line : ℕ)
-        → slice_get funcs f ≡ None → inside_stmt funcs deep w (Call f args to' line) ≡ w
+    -- a call that is still to come ends no block of the round
+    pub inside-Call : (w : Around) (f : ℕ) (args : List Arg) (to' : Option Dest) (line : ℕ)
+        → inside_stmt funcs deep w (Call f args to' line) ≡ w
     unfolding inside_stmt
-    inside-Call-none w f args to' line e = ap (inside w) (call_none funcs deep f args to' line e)
+    inside-Call w f args to' line =
+        ap (inside w) (by-Call funcs under f args to' line Done) ∙ call_closes deep (slice_get funcs f) args to' line w
 
     -- from the end on
     pub inside-drop : (w : Around) (i : ℕ) (ss : List Stmt) (s : Stmt) → i < length ss → s ≡ get_or ss i s
@@ -112,7 +135,6 @@ pub ruleset closing = (
   inside-DoWhile,
   inside-For,
   inside-Call,
-  inside-Call-none,
 )
 
 -- merging, from the end on

@@ -8,7 +8,7 @@ use Rattle.c_types.specs.declared.program.Act.TheVariants.{Continue, Leave as Le
 use Rattle.c_types.specs.Control.{Items, Done, Do, Close, If, Loop, Again, DoLoop, DoAgain, Test, Ask, Not, Both}
 use Rattle.c_types.specs.Control.{Either, Enter, Leave, Exit, ◌then◌, ask, round, do_round, open_before, opened}
 use Rattle.c_types.specs.Control.{after_again, from_again, exit_after, from_exit}
-use Rattle.c_types.specs.Control.{closed_ptrs, closed_datums, merged}
+use Rattle.c_types.specs.Control.{closed_after, closed_ptrs, closed_datums, merged}
 use Rattle.c_types.proofs.Turns.{then_done}
 use Rattle.c_cfg.specs.declared.graph.Instr.TheVariants.{Kill}
 use Rattle.c_cfg.specs.declared.graph.Edge.{Edge}
@@ -21,7 +21,7 @@ use Rattle.c_links.specs.Chains.{chain}
 use Rattle.c_lower.specs.inner.Numbering.{act_width, atom_width, test_width, width, number_test, number, loc}
 use Rattle.c_lower.specs.inner.Numbering.{enter_width, leave_width, exit_width}
 use Rattle.c_lower.specs.inner.Numbering.{atom_edges, place_edges, all_edges, test_lines, lines}
-use Rattle.c_lower.specs.inner.Emitting.{first_of, ptrs_of, datums_of, inside, in_loop, back_of, before, act_to}
+use Rattle.c_lower.specs.inner.Emitting.{first_of, dying, inside, in_loop, back_of, before, act_to}
 use Rattle.c_lower.specs.inner.Emitting.{act_links, emit_test, emit}
 use Rattle.c_lower.proofs.Lines.{Lined, lined_front, lined_back, lined_three, lined_four, lined_step, replicate_first}
 use Rattle.c_lower.proofs.Lines.{atom_wide, test_lines_length, lines_length}
@@ -90,25 +90,43 @@ module _ (nv nd exit : ℕ) (line : ℕ → ℕ) where
     pub datums : closed_datums r ≡ w.datums
     pub backs : loc nv nd exit (opened (from_exit r)) ≡ w.back
 
-  -- the end of a round, and which variables die with it: whole items have no Again
-  round_then : (n : ℕ) (is : Items) (i : ℕ) (r : Items) (ps ds : List ℕ) → IsWhole n is → closed_ptrs r ≡ ps
-      → closed_datums r ≡ ds
+  -- the end of a round: whole items have no Again
+  round_then : (n : ℕ) (is : Items) (i : ℕ) (r : Items) → IsWhole n is
       → (after_again (number nv nd is i then r) ≡ after_again r)
       × (from_again (number nv nd is i then r) ≡ from_again r)
-      × (closed_ptrs (number nv nd is i then r) ≡ ptrs_of is ps)
-      × (closed_datums (number nv nd is i then r) ≡ datums_of is ds)
-  round_then n Done i r ps ds p e f = (refl, refl, e, f)
-  round_then n (Do a m is) i r ps ds p e f = round_then n is (i + act_width nv nd a) r ps ds p e f
-  round_then n (Close qs es m is) i r ps ds p e f =
-      let h = round_then n is (i + 1) r ps ds p e f in
-      (h.0, h.1, ap (merged qs) h.2, ap (merged es) h.3)
-  round_then n (If c x y is) i r ps ds p e f = round_then n is _ r ps ds p.2 e f
-  round_then n (Loop c d b is) i r ps ds p e f = round_then n is _ r ps ds p.2 e f
-  round_then n (DoLoop c b is) i r ps ds p e f = round_then n is _ r ps ds p.1 e f
-  round_then n (Enter vs ws m is) i r ps ds p e f = round_then (suc n) is _ r ps ds p e f
-  round_then n (Leave v vs a m is) i r ps ds p e f = round_then n is _ r ps ds p e f
-  round_then (suc n) (Exit v vs t m is) i r ps ds p e f = round_then n is _ r ps ds p e f
-  round_then _ _ i r ps ds p e f = absurd p
+  round_then n Done i r p = (refl, refl)
+  round_then n (Do a m is) i r p = round_then n is (i + act_width nv nd a) r p
+  round_then n (Close qs es m is) i r p = round_then n is (i + 1) r p
+  round_then n (If c x y is) i r p = round_then n is _ r p.2
+  round_then n (Loop c d b is) i r p = round_then n is _ r p.2
+  round_then n (DoLoop c b is) i r p = round_then n is _ r p.1
+  round_then n (Enter vs ws m is) i r p = round_then (suc n) is _ r p
+  round_then n (Leave v vs a m is) i r p = round_then n is _ r p
+  round_then (suc n) (Exit v vs t m is) i r p = round_then n is _ r p
+  round_then _ _ i r p = absurd p
+
+  -- which variables die with it
+  closed_then : (own : List ℕ → List ℕ → List ℕ) (n : ℕ) (is : Items) → IsWhole n is → (m : ℕ) → m ≤ n → (i : ℕ)
+      (r : Items) (base : List ℕ) → closed_after own 0 r ≡ base
+      → closed_after own m (number nv nd is i then r) ≡ dying own m is base
+  closed_then own n Done p m l i r base e = let z : m ≡ 0 = omega (arith, p, l) in
+      ap (λ k. closed_after own k r) z ∙ e
+  closed_then own n (Do a k is) p m l i r base e = closed_then own n is p m l _ r base e
+  closed_then own n (Close ps ds k is) p zero l i r base e =
+      ap (merged (own ps ds)) (closed_then own n is p zero l _ r base e)
+  closed_then own n (Close ps ds k is) p (suc m) l i r base e = closed_then own n is p (suc m) l _ r base e
+  closed_then own n (If c x y is) p m l i r base e = closed_then own n is p.2 m l _ r base e
+  closed_then own n (Loop c x y is) p m l i r base e = closed_then own n is p.2 m l _ r base e
+  closed_then own n (Again c x y is) p m l i r base e = absurd p
+  closed_then own n (DoLoop c y is) p m l i r base e = closed_then own n is p.1 m l _ r base e
+  closed_then own n (DoAgain c y is) p m l i r base e = absurd p
+  closed_then own n (Enter vs ws k is) p m l i r base e =
+      closed_then own (suc n) is p (suc m) (omega (arith, l)) _ r base e
+  closed_then own n (Leave v vs a k is) p m l i r base e = closed_then own n is p m l _ r base e
+  closed_then own zero (Exit v vs d k is) p m l i r base e = absurd p
+  closed_then own (suc n) (Exit v vs d k is) p zero l i r base e = refl
+  closed_then own (suc n) (Exit v vs d k is) p (suc m) l i r base e =
+      closed_then own n is p m (omega (arith, l)) _ r base e
 
   back_then : (n : ℕ) (is : Items) → IsWhole n is → (m : ℕ) → m ≤ n → (i : ℕ) (r : Items) (b : ℕ)
       → loc nv nd exit (opened (from_exit r)) ≡ b
@@ -131,12 +149,12 @@ module _ (nv nd exit : ℕ) (line : ℕ → ℕ) where
   fits_before : (n : ℕ) (is : Items) (i : ℕ) (r : Items) (w : Around) → IsWhole n is → Fits r w
       → Fits (number nv nd is i then r) (before nv nd w is i)
   fits_before n is i r w p f =
-      let end = round_then n is i r w.ptrs w.datums p f.ptrs f.datums in
+      let end = round_then n is i r p in
       record {
         leaves = ap (λ z. loc nv nd exit (opened z)) end.0 ∙ f.leaves;
         agains = ap (λ z. loc nv nd exit (opened z)) end.1 ∙ f.agains;
-        ptrs = end.2;
-        datums = end.3;
+        ptrs = closed_then (λ ps ds. ps) n is p 0 (omega arith) i r w.ptrs f.ptrs;
+        datums = closed_then (λ ps ds. ds) n is p 0 (omega arith) i r w.datums f.datums;
         backs = back_then n is p 0 (omega arith) i r w.back f.backs;
       }
 

@@ -13,28 +13,35 @@ use Rattle.c_cfg.specs.Links.{enter_row, leave_row, exit_row}
 use Rattle.c_cfg.specs.Lowering.{edge}
 use Rattle.c_links.specs.Chains.{chain}
 use Rattle.c_lower.specs.inner.Numbering.{act_width, test_width, width, enter_width, leave_width, exit_width}
-use Rattle.c_lower.specs.inner.Emitting.{first_of, dying, ptrs_of, datums_of, inside, in_call, in_loop, back_of}
+use Rattle.c_lower.specs.inner.Emitting.{first_of, dying, ptrs_of, datums_of, inside, back_at, in_loop, back_of}
 use Rattle.c_lower.specs.inner.Emitting.{before, act_to, act_links, emit_test, emit}
 use Rattle.c_lower.proofs.Standing.{IsWhole}
 
-dying_both : (own : List ℕ → List ℕ → List ℕ) (c d : Items) (ps : List ℕ)
-    → dying own (c then d) ps ≡ dying own c (dying own d ps)
-dying_both own Done d ps = refl
-dying_both own (Do a m is) d ps = dying_both own is d ps
-dying_both own (Close qs ds m is) d ps = ap (merged (own qs ds)) (dying_both own is d ps)
-dying_both own (If c x y is) d ps = dying_both own is d ps
-dying_both own (Loop c n b is) d ps = dying_both own is d ps
-dying_both own (Again c n b is) d ps = refl
-dying_both own (DoLoop c b is) d ps = dying_both own is d ps
-dying_both own (DoAgain c b is) d ps = refl
-dying_both own (Enter vs ws m is) e ps = dying_both own is e ps
-dying_both own (Leave v vs a m is) e ps = dying_both own is e ps
-dying_both own (Exit v vs d m is) e ps = dying_both own is e ps
+-- of items whose calls end in them, but for n that end in them and have begun before
+dying_both : (own : List ℕ → List ℕ → List ℕ) (n : ℕ) (c : Items) → IsWhole n c → (m : ℕ) → m ≤ n → (d : Items)
+    (ps : List ℕ) → dying own m (c then d) ps ≡ dying own m c (dying own 0 d ps)
+dying_both own n Done p m l d ps = let z : m ≡ 0 = omega (arith, p, l) in ap (λ k. dying own k d ps) z
+dying_both own n (Do a k is) p m l d ps = dying_both own n is p m l d ps
+dying_both own n (Close qs es k is) p zero l d ps = ap (merged (own qs es)) (dying_both own n is p zero l d ps)
+dying_both own n (Close qs es k is) p (suc m) l d ps = dying_both own n is p (suc m) l d ps
+dying_both own n (If c x y is) p m l d ps = dying_both own n is p.2 m l d ps
+dying_both own n (Loop c x y is) p m l d ps = dying_both own n is p.2 m l d ps
+dying_both own n (Again c x y is) p m l d ps = absurd p
+dying_both own n (DoLoop c y is) p m l d ps = dying_both own n is p.1 m l d ps
+dying_both own n (DoAgain c y is) p m l d ps = absurd p
+dying_both own n (Enter vs ws k is) p m l d ps = dying_both own (suc n) is p (suc m) (omega (arith, l)) d ps
+dying_both own n (Leave v vs a k is) p m l d ps = dying_both own n is p m l d ps
+dying_both own zero (Exit v vs t k is) p m l d ps = absurd p
+dying_both own (suc n) (Exit v vs t k is) p zero l d ps = refl
+dying_both own (suc n) (Exit v vs t k is) p (suc m) l d ps = dying_both own n is p m (omega (arith, l)) d ps
 
-pub inside_both : (w : Around) (c d : Items) → inside w (c then d) ≡ inside (inside w d) c
-inside_both w c d =
-    ap (λ (ps : List ℕ). in_place ps (datums_of (c then d) w.datums)) (dying_both (λ ps ds. ps) c d w.ptrs)
-    ∙ ap (λ (ds : List ℕ). in_place (ptrs_of c (ptrs_of d w.ptrs)) ds) (dying_both (λ ps ds. ds) c d w.datums)
+pub inside_both : (n : ℕ) (c : Items) → IsWhole n c → (w : Around) (d : Items)
+    → inside w (c then d) ≡ inside (inside w d) c
+inside_both n c p w d =
+    ap (λ (ps : List ℕ). in_place ps (datums_of (c then d) w.datums))
+    (dying_both (λ ps ds. ps) n c p 0 (omega arith) d w.ptrs)
+    ∙ ap (λ (ds : List ℕ). in_place (ptrs_of c (ptrs_of d w.ptrs)) ds)
+    (dying_both (λ ps ds. ds) n c p 0 (omega arith) d w.datums)
   where
     in_place : List ℕ → List ℕ → Around
     in_place ps ds = record { leave = w.leave; again = w.again; ptrs = ps; datums = ds; back = w.back }
@@ -104,12 +111,12 @@ module _ (nv nd : ℕ) where
 
   pub before_both : (n : ℕ) (c : Items) → IsWhole n c → (w : Around) (d : Items) (i j : ℕ) → j ≡ i + width nv nd c
       → before nv nd w (c then d) i ≡ before nv nd (before nv nd w d j) c i
-  before_both n c p w d i j e = ap (λ (v : Around). in_call v (back_of nv nd (c then d) 0 i w.back)) (inside_both w c d)
-      ∙ ap (in_call (inside (inside w d) c)) (back_both n c p 0 (omega arith) d i j w.back e)
+  before_both n c p w d i j e = ap (λ (v : Around). back_at v (back_of nv nd (c then d) 0 i w.back)) (inside_both n c p w d)
+      ∙ ap (back_at (inside (inside w d) c)) (back_both n c p 0 (omega arith) d i j w.back e)
 
   -- what is around items in which each call ends that begins in them is told without their location
   pub before_whole : (c : Items) → IsWhole 0 c → (w : Around) (i : ℕ) → before nv nd w c i ≡ inside w c
-  before_whole c p w i = ap (in_call (inside w c)) (back_behind 0 c p 0 (omega arith) i w.back)
+  before_whole c p w i = ap (back_at (inside w c)) (back_behind 0 c p 0 (omega arith) i w.back)
 
 module _ (nv nd exit : ℕ) where
   act_same : (w : Around) (d : Items) (a : Act) (j k : ℕ) → act_to exit w a k
@@ -138,7 +145,7 @@ module _ (nv nd exit : ℕ) where
       let e1 : j ≡ i1 + width nv nd is = omega (arith, e) in
       let to = first_of (width nv nd is) i1 (first_of (width nv nd d) j k) in
       ap (λ q. chain m (act_links nv nd q a) i (act_to exit w a (first_of (width nv nd (is then d)) i1 k))
-      ++ emit nv nd exit (is then d) w i1 k) (inside_both w is d)
+      ++ emit nv nd exit (is then d) w i1 k) (inside_both n is p w d)
       ∙ chain_then (act_links nv nd (inside (inside w d) is) a) i m _ _ _ _ _
       (ap (act_to exit w a) (after_both is d i1 j k e1) ∙ act_same w d a j to) (emit_then n is p d w i1 j k e1)
   emit_then n (Close ps ds m is) p d w i j k e =

@@ -118,7 +118,7 @@ impl<'p> Site<'p> {
                         span.from,
                         spans.first.from,
                     )?;
-                    let inner = around.in_call(self.alloc, end.from)?;
+                    let inner = around.in_call(self.alloc, end.from);
                     let stmts = self.reached(called.body.as_slice());
                     self.deeper().add_all(edges, stmts, &inner, spans.first)?;
                     self.add_exit(edges, called, to, *line, end)

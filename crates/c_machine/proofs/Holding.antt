@@ -1,6 +1,6 @@
 -- Which variables of the blocks that are left refer to a cell.
 use Rattle.std.proofs.Common.{◌≡◌, ℕ, zero, suc, Bool, true, false, ◌||◌, nat_lt, if◌then◌else◌, List, [], ◌∷◌}
-use Rattle.std.proofs.Common.{Option, Some, None, slice_get, ◌<◌, ◌-◌}
+use Rattle.std.proofs.Common.{Option, slice_get}
 use Rattle.std.proofs.Common.{◌++◌, map, length, take, slice_index_or, ◌≤◌, refl, sym, ap, ◌∙◌, subst, arith}
 use Rattle.std.proofs.Math.Seq.{take-suc, take-length}
 use Rattle.std.proofs.lemmas.List.{map-append}
@@ -18,11 +18,12 @@ use Rattle.c_types.specs.declared.program.Func.{Func}
 use Rattle.c_types.specs.declared.program.VarRef.{VarRef}
 use Rattle.c_types.specs.declared.program.VarRef.TheVariants.{Ptr as PtrVar, Data as DatumVar}
 use Rattle.c_types.proofs.Composing.{act_composed}
+use Rattle.c_types.proofs.OwnEnds.{call_hides}
 use Rattle.fore_base.specs.declared.store.Store.{Store}
 use Rattle.c_types.specs.declared.program.Stmt.TheOpen.{Do as Do-F, Branch as Branch-F, While as While-F}
 use Rattle.c_types.specs.declared.program.Stmt.TheOpen.{DoWhile as DoWhile-F, For as For-F, Group as Group-F}
 use Rattle.c_types.specs.declared.program.Stmt.TheOpen.{Call as Call-F}
-use Rattle.c_types.specs.Control.{Items, Exit, insert, merged, closed_ptrs, all_before, closes, call_items, items_step}
+use Rattle.c_types.specs.Control.{Items, insert, merged, closed_ptrs, all_before, closes, items_step}
 use Rattle.c_types.specs.Control.{items_by, body_within, ptr_vars}
 use Rattle.c_types.specs.Steps.{below}
 use Rattle.c_types.specs.Losses.{is_cell, hold_cell, vars_hold}
@@ -30,7 +31,7 @@ use Rattle.c_machine.specs.declared.items.Item.{Item}
 use Rattle.c_machine.specs.declared.items.Item.TheVariants.{Block}
 use Rattle.c_machine.specs.declared.items.Body.{Body}
 use Rattle.c_machine.specs.Pending.{in_order, before, pending}
-use Rattle.c_machine.specs.inner.Losing.{some_true, held_called, held_step, held_by, held_within, held_among}
+use Rattle.c_machine.specs.inner.Losing.{some_true, held_step, held_in, held_among}
 use Rattle.c_machine.proofs.Stacks.{onto_push}
 
 or_assoc : (a b c : Bool) → (a || b) || c ≡ a || (b || c)
@@ -110,13 +111,12 @@ module _ (vs : List Value) where
       → b || hold_cell vs (closed_ptrs (f r)) ≡ (b || c) || hold_cell vs (closed_ptrs r)
   both_hold f r b c e = ap (λ x. b || x) e ∙ sym (or_assoc b c (hold_cell vs (closed_ptrs r)))
 
-  module _ (funcs : List Func) (inside : List Stmt → Items → Items) (held : List Stmt → Bool)
-      (bodies : (b : List Stmt) → Holds (inside b) (held b)) where
+  module _ (funcs : List Func) (deep : ℕ) where
     abbrev its : Stmt → Items → Items
-    its = items_by funcs inside
+    its = items_by funcs (body_within funcs deep)
 
     abbrev holding : Stmt → Bool
-    holding = held_by vs funcs held
+    holding = held_in vs
 
     abbrev HoldsAs : Stmt → Type 0
     HoldsAs s = Holds (its s) (holding s)
@@ -132,14 +132,9 @@ module _ (vs : List Value) where
         ∙ both_hold (all_before (map its (bare es))) r (holding e.0) (some_true (map holding (bare es)))
         (each_holds es r)
 
-    call_holds : (o : Option Func) (args : List Arg) (to' : Option Dest) (m : ℕ)
-        → Holds (call_items inside o args to' m) (held_called held o)
-    call_holds None args to' m r = refl
-    call_holds (Some g) args to' m r = bodies g.body (Exit g.result g.params to' m r)
-
     abbrev LayerHolds : Stmt-F Stmt → Type 0
-    LayerHolds y = Holds (items_step funcs inside (map-Stmt Stmt (Items → Items) its y))
-        (held_step vs funcs held (map-Stmt Stmt Bool holding y))
+    LayerHolds y = Holds (items_step funcs (body_within funcs deep) (map-Stmt Stmt (Items → Items) its y))
+        (held_step vs (map-Stmt Stmt Bool holding y))
 
     layer_holds : (y : Stmt-F ((s : Stmt) × HoldsAs s))
         → LayerHolds (map-Stmt ((s : Stmt) × HoldsAs s) Stmt (λ e. e.0) y)
@@ -149,16 +144,17 @@ module _ (vs : List Value) where
         each_holds b (closes ps ds m r)
         ∙ both_hold (closes ps ds m) r (some_true (map holding (bare b))) (hold_cell vs ps)
         (hold_closes vs ps ds m r)
-    layer_holds (Call-F f args to' line) r = call_holds (slice_get funcs f) args to' line r
+    layer_holds (Call-F f args to' line) r =
+        ap (hold_cell vs) (call_hides funcs deep (slice_get funcs f) args to' line (λ ps ds. ps) r)
     layer_holds _ r = refl
 
     stmt_holds : (s : Stmt) → HoldsAs s
     stmt_holds = ind-Stmt HoldsAs (λ x y is.
         let here : LayerHolds x = subst LayerHolds is (layer_holds y) in
         subst (λ f. Holds f (holding (roll-Stmt x)))
-        (sym (fold-roll-Stmt (Items → Items) (items_step funcs inside) x))
-        (subst (λ b. Holds (items_step funcs inside (map-Stmt Stmt (Items → Items) its x)) b)
-        (sym (fold-roll-Stmt Bool (held_step vs funcs held) x)) here))
+        (sym (fold-roll-Stmt (Items → Items) (items_step funcs (body_within funcs deep)) x))
+        (subst (λ b. Holds (items_step funcs (body_within funcs deep) (map-Stmt Stmt (Items → Items) its x)) b)
+        (sym (fold-roll-Stmt Bool (held_step vs) x)) here))
 
     all_hold : (ss : List Stmt) → Holds (all_before (map its ss)) (some_true (map holding ss))
     all_hold [] r = refl
@@ -166,69 +162,40 @@ module _ (vs : List Value) where
         stmt_holds x (all_before (map its xs) r)
         ∙ both_hold (all_before (map its xs)) r (holding x) (some_true (map holding xs)) (all_hold xs r)
 
-  body_holds : (funcs : List Func) (n : ℕ) (b : List Stmt)
-      → Holds (body_within funcs n b) (held_within vs funcs n b)
-  body_holds funcs zero b r = refl
-  body_holds funcs (suc n) b r =
-      all_hold funcs (body_within funcs n) (held_within vs funcs n) (body_holds funcs n) b r
-
   pub block_holds : (funcs : List Func) (ss : List Stmt) (r : Items)
-      → hold_cell vs (closed_ptrs (in_order funcs ss r))
-      ≡ held_among vs funcs (length funcs) ss || hold_cell vs (closed_ptrs r)
+      → hold_cell vs (closed_ptrs (in_order funcs ss r)) ≡ held_among vs ss || hold_cell vs (closed_ptrs r)
   unfolding in_order
-  block_holds funcs ss r =
-      let n = length funcs in
-      all_hold funcs (body_within funcs n) (held_within vs funcs n) (body_holds funcs n) ss r
+  block_holds funcs ss r = all_hold funcs (length funcs) ss r
 
 -- The blocks among statements
 
-module _ (vs : List Value) (funcs : List Func) (inside : List Stmt → Bool) where
-  abbrev by : Stmt → Bool
-  by = held_by vs funcs inside
+module _ (vs : List Value) where
+  rolled : (x : Stmt-F Stmt) → held_in vs (roll-Stmt x) ≡ held_step vs (map-Stmt Stmt Bool (held_in vs) x)
+  rolled x = fold-roll-Stmt Bool (held_step vs) x
 
-  rolled : (x : Stmt-F Stmt) → by (roll-Stmt x) ≡ held_step vs funcs inside (map-Stmt Stmt Bool by x)
-  rolled x = fold-roll-Stmt Bool (held_step vs funcs inside) x
+  pub held-Do : (a : Act) (line : ℕ) → held_in vs (StmtDo a line) ≡ false
+  held-Do a line = ap (held_in vs) (sym (rolls-Do a line)) ∙ rolled (Do-F a line)
 
-  pub held-Do : (a : Act) (line : ℕ) → held_by vs funcs inside (StmtDo a line) ≡ false
-  held-Do a line = ap by (sym (rolls-Do a line)) ∙ rolled (Do-F a line)
+  pub held-Branch : (c : Cond) (x y : List Stmt) → held_in vs (Branch c x y) ≡ false
+  held-Branch c x y = ap (held_in vs) (sym (rolls-Branch c x y)) ∙ rolled (Branch-F c x y)
 
-  pub held-Branch : (c : Cond) (x y : List Stmt) → held_by vs funcs inside (Branch c x y) ≡ false
-  held-Branch c x y = ap by (sym (rolls-Branch c x y)) ∙ rolled (Branch-F c x y)
+  pub held-While : (c : Cond) (b : List Stmt) → held_in vs (While c b) ≡ false
+  held-While c b = ap (held_in vs) (sym (rolls-While c b)) ∙ rolled (While-F c b)
 
-  pub held-While : (c : Cond) (b : List Stmt) → held_by vs funcs inside (While c b) ≡ false
-  held-While c b = ap by (sym (rolls-While c b)) ∙ rolled (While-F c b)
+  pub held-DoWhile : (c : Cond) (b : List Stmt) → held_in vs (DoWhile c b) ≡ false
+  held-DoWhile c b = ap (held_in vs) (sym (rolls-DoWhile c b)) ∙ rolled (DoWhile-F c b)
 
-  pub held-DoWhile : (c : Cond) (b : List Stmt) → held_by vs funcs inside (DoWhile c b) ≡ false
-  held-DoWhile c b = ap by (sym (rolls-DoWhile c b)) ∙ rolled (DoWhile-F c b)
+  pub held-For : (c : Cond) (n b : List Stmt) → held_in vs (For c n b) ≡ false
+  held-For c n b = ap (held_in vs) (sym (rolls-For c n b)) ∙ rolled (For-F c n b)
 
-  pub held-For : (c : Cond) (n b : List Stmt) → held_by vs funcs inside (For c n b) ≡ false
-  held-For c n b = ap by (sym (rolls-For c n b)) ∙ rolled (For-F c n b)
+  pub held-Group : (b : List Stmt) (ps ds : List ℕ) (m : ℕ) → held_in vs (Group b ps ds m)
+      ≡ some_true (map (held_in vs) b) || hold_cell vs ps
+  held-Group b ps ds m = ap (held_in vs) (sym (rolls-Group b ps ds m)) ∙ rolled (Group-F b ps ds m)
 
-  pub held-Group : (b : List Stmt) (ps ds : List ℕ) (m : ℕ) → held_by vs funcs inside (Group b ps ds m)
-      ≡ some_true (map (held_by vs funcs inside) b) || hold_cell vs ps
-  held-Group b ps ds m = ap by (sym (rolls-Group b ps ds m)) ∙ rolled (Group-F b ps ds m)
+  pub held-Call : (f : ℕ) (args : List Arg) (to' : Option Dest) (line : ℕ) → held_in vs (Call f args to' line) ≡ false
+  held-Call f args to' line = ap (held_in vs) (sym (rolls-Call f args to' line)) ∙ rolled (Call-F f args to' line)
 
-  pub held-Call : (f : ℕ) (args : List Arg) (to' : Option Dest) (line : ℕ)
-      → held_by vs funcs inside (Call f args to' line) ≡ held_called inside (slice_get funcs f)
-  held-Call f args to' line = ap by (sym (rolls-Call f args to' line)) ∙ rolled (Call-F f args to' line)
-
--- a call that is still followed
-pub held_deeper : (vs : List Value) (funcs : List Func) (n : ℕ) (b : List Stmt) → 0 < n
-    → held_within vs funcs n b ≡ held_among vs funcs (n - 1) b
-held_deeper vs funcs zero b less = absurd (omega (arith, less))
-held_deeper vs funcs (suc n) b less =
-    ap (λ k. held_among vs funcs k b) (let same : n ≡ suc n - 1 = omega arith in same)
-
-pub ruleset held = (
-  held-Do,
-  held-Branch,
-  held-While,
-  held-DoWhile,
-  held-For,
-  held-Group,
-  held-Call,
-  held_deeper,
-)
+pub ruleset held = (held-Do, held-Branch, held-While, held-DoWhile, held-For, held-Group, held-Call)
 
 -- Variables of either kind
 
@@ -251,8 +218,7 @@ pub ruleset leaves = (hold_closes, pending_last)
 -- the blocks of the entry that comes first, and what comes after it
 pub round_block : (vs : List Value) (xs ys : List Item) (x : Item) (b : Body) → ys ≡ xs ++ x ∷ [] → x ≡ Block b
     → hold_cell vs (closed_ptrs (pending ys))
-    ≡ held_among vs b.program.now.funcs (length b.program.now.funcs) b.stmts.now
-    || hold_cell vs (closed_ptrs (pending xs))
+    ≡ held_among vs b.stmts.now || hold_cell vs (closed_ptrs (pending xs))
 round_block vs xs ys x b e is =
     ap (λ zs. hold_cell vs (closed_ptrs (pending zs))) e
     ∙ ap (λ r. hold_cell vs (closed_ptrs r)) (pending_last xs x)

@@ -1,7 +1,6 @@
 -- `break` and `continue`, and `return` of a function, on the machine's stack.
-use Rattle.std.proofs.Common.{◌≡◌, ◌<◌, ◌-◌, ℕ, zero, suc, List, [], ◌∷◌, Bool, true, false, map, length, slice_get}
-use Rattle.std.proofs.Common.{refl}
-use Rattle.std.proofs.Common.{Option, Some, None, sym, ap, ◌∙◌, subst, arith}
+use Rattle.std.proofs.Common.{◌≡◌, ℕ, List, [], ◌∷◌, Bool, true, false, map, length, slice_get, refl, Option, sym, ap}
+use Rattle.std.proofs.Common.{◌∙◌, subst}
 use Rattle.fore_base.specs.declared.store.Store.{Store}
 use Rattle.fore_base.specs.Stores.{kill}
 use Rattle.c_types.specs.declared.program.Act.{Act}
@@ -15,14 +14,14 @@ use Rattle.c_types.specs.declared.program.VarRef.{VarRef}
 use Rattle.c_types.specs.declared.program.Arg.{Arg}
 use Rattle.c_types.specs.declared.program.Dest.{Dest}
 use Rattle.c_types.proofs.Composing.{act_composed}
-use Rattle.c_types.proofs.OwnEnds.{closes_own, leaves_past, closes_no_again, all_no_again}
+use Rattle.c_types.proofs.OwnEnds.{closes_own, leaves_past, closes_no_again, all_no_again, call_hides}
 use Rattle.c_types.specs.declared.program.Stmt.TheOpen.{Do as Do-F, Branch as Branch-F, While as While-F}
 use Rattle.c_types.specs.declared.program.Stmt.TheOpen.{DoWhile as DoWhile-F, For as For-F, Group as Group-F}
 use Rattle.c_types.specs.declared.program.Stmt.TheOpen.{Call as Call-F}
 use Rattle.c_types.specs.Control.{Items, Done, Loop, Exit, Test, from_exit, closed_ptrs}
 use Rattle.c_types.specs.Control.{closed_datums, all_before, closes, call_items, items_step, items_by, body_within}
 use Rattle.c_acts.proofs.Dying.{kill_merged}
-use Rattle.c_machine.specs.Pending.{in_order, ends_in_each, ends_called, ends_step, ends_by, ends_within, ends_among}
+use Rattle.c_machine.specs.Pending.{in_order, ends_in_each, ends_step, ends_of, ends_among}
 use Rattle.c_machine.specs.declared.items.Body.{Body}
 use Rattle.c_machine.specs.Pending.{block, leaving, left_round}
 
@@ -38,64 +37,57 @@ leaving_closes (p ∷ ps) ds m r s = kill_merged (p ∷ ps) (closed_ptrs r) ds (
 abbrev Dies : (Items → Items) → (Store → Store) → Type 0
 Dies f ends = (r : Items) (s : Store) → leaving (f r) s ≡ leaving r (ends s)
 
-module _ (funcs : List Func) (inside : List Stmt → Items → Items) (ended : List Stmt → Store → Store)
-    (bodies : (b : List Stmt) → Dies (inside b) (ended b)) where
+module _ (funcs : List Func) (deep : ℕ) where
   abbrev its : Stmt → Items → Items
-  its = items_by funcs inside
-
-  abbrev dying : Stmt → Store → Store
-  dying = ends_by funcs ended
+  its = items_by funcs (body_within funcs deep)
 
   abbrev DiesAs : Stmt → Type 0
-  DiesAs s = Dies (its s) (dying s)
+  DiesAs s = Dies (its s) (ends_of s)
 
   abbrev bare : List ((s : Stmt) × DiesAs s) → List Stmt
   bare es = map (λ e. e.0) es
 
   each_dies : (es : List ((s : Stmt) × DiesAs s))
-      → Dies (all_before (map its (bare es))) (ends_in_each (map dying (bare es)))
+      → Dies (all_before (map its (bare es))) (ends_in_each (map ends_of (bare es)))
   each_dies [] r s = refl
-  each_dies (e ∷ es) r s = e.1 (all_before (map its (bare es)) r) s ∙ each_dies es r (dying e.0 s)
+  each_dies (e ∷ es) r s = e.1 (all_before (map its (bare es)) r) s ∙ each_dies es r (ends_of e.0 s)
 
+  -- a call that is still to come
   call_dies : (o : Option Func) (args : List Arg) (to' : Option Dest) (m : ℕ)
-      → Dies (call_items inside o args to' m) (ends_called ended o)
-  call_dies None args to' m r s = refl
-  call_dies (Some g) args to' m r s = bodies g.body (Exit g.result g.params to' m r) s
+      → Dies (call_items (body_within funcs deep) o args to' m) (λ s. s)
+  call_dies o args to' m r s =
+      let own = call_items (body_within funcs deep) o args to' m r in
+      ap (λ ps. kill ps (closed_datums own) s) (call_hides funcs deep o args to' m (λ ps ds. ps) r)
+      ∙ ap (λ ds. kill (closed_ptrs r) ds s) (call_hides funcs deep o args to' m (λ ps ds. ds) r)
 
   abbrev LayerDies : Stmt-F Stmt → Type 0
-  LayerDies y = Dies (items_step funcs inside (map-Stmt Stmt (Items → Items) its y))
-      (ends_step funcs ended (map-Stmt Stmt (Store → Store) dying y))
+  LayerDies y = Dies (items_step funcs (body_within funcs deep) (map-Stmt Stmt (Items → Items) its y))
+      (ends_step (map-Stmt Stmt (Store → Store) ends_of y))
 
   layer_dies : (y : Stmt-F ((s : Stmt) × DiesAs s)) → LayerDies (map-Stmt ((s : Stmt) × DiesAs s) Stmt (λ e. e.0) y)
   layer_dies (Do-F a line) r s =
       act_composed (λ f. Dies f (λ t. t)) (λ b m q t. refl) (λ g b m q t. refl) funcs a line r s
   layer_dies (Group-F b ps ds m) r s =
-      each_dies b (closes ps ds m r) s ∙ leaving_closes ps ds m r (ends_in_each (map dying (bare b)) s)
+      each_dies b (closes ps ds m r) s ∙ leaving_closes ps ds m r (ends_in_each (map ends_of (bare b)) s)
   layer_dies (Call-F f args to' line) r s = call_dies (slice_get funcs f) args to' line r s
   layer_dies _ r s = refl
 
   stmt_dies : (s : Stmt) → DiesAs s
   stmt_dies = ind-Stmt DiesAs (λ x y is.
       let here : LayerDies x = subst LayerDies is (layer_dies y) in
-      subst (λ f. Dies f (dying (roll-Stmt x))) (sym (fold-roll-Stmt (Items → Items) (items_step funcs inside) x))
-      (subst (λ f. Dies (items_step funcs inside (map-Stmt Stmt (Items → Items) its x)) f)
-      (sym (fold-roll-Stmt (Store → Store) (ends_step funcs ended) x)) here))
+      subst (λ f. Dies f (ends_of (roll-Stmt x)))
+      (sym (fold-roll-Stmt (Items → Items) (items_step funcs (body_within funcs deep)) x))
+      (subst (λ f. Dies (items_step funcs (body_within funcs deep) (map-Stmt Stmt (Items → Items) its x)) f)
+      (sym (fold-roll-Stmt (Store → Store) ends_step x)) here))
 
-  all_die : (ss : List Stmt) → Dies (all_before (map its ss)) (ends_in_each (map dying ss))
+  all_die : (ss : List Stmt) → Dies (all_before (map its ss)) (ends_in_each (map ends_of ss))
   all_die [] r s = refl
-  all_die (x ∷ xs) r s = stmt_dies x (all_before (map its xs) r) s ∙ all_die xs r (dying x s)
-
-body_dies : (funcs : List Func) (n : ℕ) (b : List Stmt) → Dies (body_within funcs n b) (ends_within funcs n b)
-body_dies funcs zero b r s = refl
-body_dies funcs (suc n) b r s =
-    all_die funcs (body_within funcs n) (ends_within funcs n) (body_dies funcs n) b r s
+  all_die (x ∷ xs) r s = stmt_dies x (all_before (map its xs) r) s ∙ all_die xs r (ends_of x s)
 
 pub block_dies : (funcs : List Func) (ss : List Stmt) (r : Items) (s : Store) → leaving (in_order funcs ss r) s
-    ≡ leaving r (ends_among funcs (length funcs) ss s)
+    ≡ leaving r (ends_among ss s)
 unfolding in_order
-block_dies funcs ss r s =
-    let n = length funcs in
-    all_die funcs (body_within funcs n) (ends_within funcs n) (body_dies funcs n) ss r s
+block_dies funcs ss r s = all_die funcs (length funcs) ss r s
 
 pub block_goes : (funcs : List Func) (ss : List Stmt) (goes_on : Bool) (r : Items)
     → left_round goes_on (in_order funcs ss r) ≡ left_round goes_on r
@@ -133,46 +125,34 @@ closes_stay ps ds m r = closes_own ps ds m 0 r
 
 -- The blocks among statements
 
-module _ (funcs : List Func) (inside : List Stmt → Store → Store) where
-  abbrev by : Stmt → Store → Store
-  by = ends_by funcs inside
+rolled : (x : Stmt-F Stmt) (s : Store) → ends_of (roll-Stmt x) s ≡ ends_step (map-Stmt Stmt (Store → Store) ends_of x) s
+rolled x s = ap (λ f. f s) (fold-roll-Stmt (Store → Store) ends_step x)
 
-  rolled : (x : Stmt-F Stmt) (s : Store)
-      → by (roll-Stmt x) s ≡ ends_step funcs inside (map-Stmt Stmt (Store → Store) by x) s
-  rolled x s = ap (λ f. f s) (fold-roll-Stmt (Store → Store) (ends_step funcs inside) x)
+pub ends-Do : (a : Act) (line : ℕ) (s : Store) → ends_of (StmtDo a line) s ≡ s
+ends-Do a line s = ap (λ x. ends_of x s) (sym (rolls-Do a line)) ∙ rolled (Do-F a line) s
 
-  pub ends-Do : (a : Act) (line : ℕ) (s : Store) → ends_by funcs inside (StmtDo a line) s ≡ s
-  ends-Do a line s = ap (λ x. by x s) (sym (rolls-Do a line)) ∙ rolled (Do-F a line) s
+pub ends-Branch : (c : Cond) (x y : List Stmt) (s : Store) → ends_of (Branch c x y) s ≡ s
+ends-Branch c x y s = ap (λ z. ends_of z s) (sym (rolls-Branch c x y)) ∙ rolled (Branch-F c x y) s
 
-  pub ends-Branch : (c : Cond) (x y : List Stmt) (s : Store) → ends_by funcs inside (Branch c x y) s ≡ s
-  ends-Branch c x y s = ap (λ z. by z s) (sym (rolls-Branch c x y)) ∙ rolled (Branch-F c x y) s
+pub ends-While : (c : Cond) (b : List Stmt) (s : Store) → ends_of (While c b) s ≡ s
+ends-While c b s = ap (λ z. ends_of z s) (sym (rolls-While c b)) ∙ rolled (While-F c b) s
 
-  pub ends-While : (c : Cond) (b : List Stmt) (s : Store) → ends_by funcs inside (While c b) s ≡ s
-  ends-While c b s = ap (λ z. by z s) (sym (rolls-While c b)) ∙ rolled (While-F c b) s
+pub ends-DoWhile : (c : Cond) (b : List Stmt) (s : Store) → ends_of (DoWhile c b) s ≡ s
+ends-DoWhile c b s = ap (λ z. ends_of z s) (sym (rolls-DoWhile c b)) ∙ rolled (DoWhile-F c b) s
 
-  pub ends-DoWhile : (c : Cond) (b : List Stmt) (s : Store) → ends_by funcs inside (DoWhile c b) s ≡ s
-  ends-DoWhile c b s = ap (λ z. by z s) (sym (rolls-DoWhile c b)) ∙ rolled (DoWhile-F c b) s
+pub ends-For : (c : Cond) (n b : List Stmt) (s : Store) → ends_of (For c n b) s ≡ s
+ends-For c n b s = ap (λ z. ends_of z s) (sym (rolls-For c n b)) ∙ rolled (For-F c n b) s
 
-  pub ends-For : (c : Cond) (n b : List Stmt) (s : Store) → ends_by funcs inside (For c n b) s ≡ s
-  ends-For c n b s = ap (λ z. by z s) (sym (rolls-For c n b)) ∙ rolled (For-F c n b) s
+pub ends-Group : (b : List Stmt) (ps ds : List ℕ) (m : ℕ) (s : Store) → ends_of (Group b ps ds m) s
+    ≡ kill ps ds (ends_among b s)
+ends-Group b ps ds m s = ap (λ z. ends_of z s) (sym (rolls-Group b ps ds m)) ∙ rolled (Group-F b ps ds m) s
 
-  pub ends-Group : (b : List Stmt) (ps ds : List ℕ) (m : ℕ) (s : Store) → ends_by funcs inside (Group b ps ds m) s
-      ≡ kill ps ds (ends_in_each (map (ends_by funcs inside) b) s)
-  ends-Group b ps ds m s = ap (λ z. by z s) (sym (rolls-Group b ps ds m)) ∙ rolled (Group-F b ps ds m) s
+pub ends-Call : (f : ℕ) (args : List Arg) (to' : Option Dest) (line : ℕ) (s : Store)
+    → ends_of (Call f args to' line) s ≡ s
+ends-Call f args to' line s = ap (λ z. ends_of z s) (sym (rolls-Call f args to' line))
+    ∙ rolled (Call-F f args to' line) s
 
-  pub ends-Call : (f : ℕ) (args : List Arg) (to' : Option Dest) (line : ℕ) (s : Store)
-      → ends_by funcs inside (Call f args to' line) s ≡ ends_called inside (slice_get funcs f) s
-  ends-Call f args to' line s = ap (λ z. by z s) (sym (rolls-Call f args to' line))
-      ∙ rolled (Call-F f args to' line) s
-
--- a call that is still followed
-pub ends_deeper : (funcs : List Func) (n : ℕ) (b : List Stmt) (s : Store) → 0 < n
-    → ends_within funcs n b s ≡ ends_among funcs (n - 1) b s
-ends_deeper funcs zero b s less = absurd (omega (arith, less))
-ends_deeper funcs (suc n) b s less =
-    ap (λ k. ends_among funcs k b s) (let same : n ≡ suc n - 1 = omega arith in same)
-
-pub ruleset ends = (ends-Do, ends-Branch, ends-While, ends-DoWhile, ends-For, ends-Group, ends-Call, ends_deeper)
+pub ruleset ends = (ends-Do, ends-Branch, ends-While, ends-DoWhile, ends-For, ends-Group, ends-Call)
 
 pub ruleset leaves = (block_dies, block_goes, leaving_closes, closes_goes, loop_goes, exit_goes, round_done)
 

@@ -1,6 +1,5 @@
 -- What the machine's stack, and what stands before it, mean as pending items.
-use Rattle.std.specs.Prelude.{◌≡◌, ℕ, zero, suc, ◌+◌, ◌≤◌, List, [], ◌∷◌, map, length, Bool, true, false, Option, Some}
-use Rattle.std.specs.Prelude.{None, slice_get}
+use Rattle.std.specs.Prelude.{◌≡◌, ℕ, ◌+◌, ◌≤◌, List, [], ◌∷◌, map, Bool, true, false}
 use Rattle.std.specs.Vec.{vec_len, vec_capacity}
 use Rattle.fore_base.specs.Lists.{sum_of}
 use Rattle.c_types.specs.declared.program.Atom.TheVariants.{Known as KnownAtom}
@@ -208,37 +207,27 @@ shut_weight Nothing weight = 0
 
 -- Leaving a round
 
--- what the end of the blocks among some statements does to a store
+-- what the end of the blocks among some statements does to a store; a call that is still to come ends none
 abbrev pub ends_in_each : List (Store → Store) → Store → Store
 ends_in_each [] s = s
 ends_in_each (f ∷ fs) s = ends_in_each fs (f s)
 
--- the same of those that a function holds, as `inside` gives it for its body
-abbrev pub ends_called : (List Stmt → Store → Store) → Option Func → Store → Store
-ends_called inside None s = s
-ends_called inside (Some g) s = inside g.body s
+abbrev pub ends_step : Stmt-F (Store → Store) → Store → Store
+ends_step (Do-F a line) s = s
+ends_step (Branch-F c x y) s = s
+ends_step (While-F c b) s = s
+ends_step (DoWhile-F c b) s = s
+ends_step (For-F c n b) s = s
+ends_step (Group-F b ps ds m) s = kill ps ds (ends_in_each b s)
+ends_step (Call-F f args to' line) s = s
 
-abbrev pub ends_step : List Func → (List Stmt → Store → Store) → Stmt-F (Store → Store) → Store → Store
-ends_step funcs inside (Do-F a line) s = s
-ends_step funcs inside (Branch-F c x y) s = s
-ends_step funcs inside (While-F c b) s = s
-ends_step funcs inside (DoWhile-F c b) s = s
-ends_step funcs inside (For-F c n b) s = s
-ends_step funcs inside (Group-F b ps ds m) s = kill ps ds (ends_in_each b s)
-ends_step funcs inside (Call-F f args to' line) s = ends_called inside (slice_get funcs f) s
+abbrev pub ends_of : Stmt → Store → Store
+ends_of = fold-Stmt (Store → Store) ends_step
 
-abbrev pub ends_by : List Func → (List Stmt → Store → Store) → Stmt → Store → Store
-ends_by funcs inside = fold-Stmt (Store → Store) (ends_step funcs inside)
+abbrev pub ends_among : List Stmt → Store → Store
+ends_among ss s = ends_in_each (map ends_of ss) s
 
--- the same of a called function's body, where calls are followed n deep
-abbrev pub ends_within : List Func → ℕ → List Stmt → Store → Store
-ends_within funcs zero body s = s
-ends_within funcs (suc n) body s = ends_in_each (map (ends_by funcs (ends_within funcs n)) body) s
-
-abbrev pub ends_among : List Func → ℕ → List Stmt → Store → Store
-ends_among funcs n ss s = ends_in_each (map (ends_by funcs (ends_within funcs n)) ss) s
-
--- the variables die of each Close before the first Again
+-- the variables die that are the call's own, of each Close before the first Again
 abbrev pub leaving : Items → Store → Store
 leaving is s = kill (closed_ptrs is) (closed_datums is) s
 

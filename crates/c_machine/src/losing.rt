@@ -1,18 +1,17 @@
 //! Whether an act, the end of a block, or a step of a call takes a reference to a cell away. Any other step has the
 //! leak test's answer of before it.
 
-ghost use Rattle.std.specs.Prelude.{◌≡◌, ◌||◌, [], ◌∷◌, length, map, slice_get};
+ghost use Rattle.std.specs.Prelude.{◌≡◌, ◌||◌, [], ◌∷◌, length, map};
 ghost use Rattle.c_types.specs.Control.{closed_ptrs, with_result};
 ghost use Rattle.c_types.specs.Losses.{is_cell, hold_cell, got_cell, assign_loses, act_loses, vars_hold, to_loses};
 ghost use Rattle.c_types.specs.Steps.{read, below};
 ghost use Rattle.c_machine.specs.Pending.{pending};
-ghost use Rattle.c_machine.specs.inner.Losing.{some_true, held_called, held_by, held_within, held_among};
+ghost use Rattle.c_machine.specs.inner.Losing.{some_true, held_in, held_among};
 
-use crate::items::{Body, Item};
+use crate::items::Item;
 use c_acts::paths::read;
 use c_heap::heap::Heap;
 use c_types::program::{Act, Dest, Func, Path, PtrRhs, Stmt, VarRef};
-use fore_base::list::List;
 use fore_base::store::Value;
 
 fn is_cell(value: Value) -> bool
@@ -73,15 +72,14 @@ fn assign_loses(heap: &Heap, to: &Path, from: &PtrRhs) -> bool
     }
 }
 
-/// Whether a variable of the blocks among these statements refers to a cell, also of those in the functions that they
-/// call, where calls are followed so deep.
+/// Whether a variable of the blocks among these statements refers to a cell.
 #[cycle(blocks_hold_cell)]
 #[tactic(auto, using(crate::proofs::Holding::held, crate::proofs::Walks::walks))]
-fn blocks_hold_cell(heap: &Heap, funcs: &List<Func>, stmts: &[Stmt], depth: usize) -> bool
-    ensures { result ≡ held_among heap.now.vars funcs.now depth stmts.now }
+fn blocks_hold_cell(heap: &Heap, stmts: &[Stmt]) -> bool
+    ensures { result ≡ held_among heap.now.vars stmts.now }
 {
     for stmt in stmts {
-        if stmt_holds_cell(heap, funcs, stmt, depth) {
+        if stmt_holds_cell(heap, stmt) {
             return true;
         }
     }
@@ -90,40 +88,15 @@ fn blocks_hold_cell(heap: &Heap, funcs: &List<Func>, stmts: &[Stmt], depth: usiz
 
 #[cycle(blocks_hold_cell)]
 #[tactic(auto, using(crate::proofs::Holding::held, crate::proofs::Walks::walks))]
-fn stmt_holds_cell(heap: &Heap, funcs: &List<Func>, stmt: &Stmt, depth: usize) -> bool
-    ensures { result ≡ held_by heap.now.vars funcs.now (held_within heap.now.vars funcs.now depth) stmt.now }
+fn stmt_holds_cell(heap: &Heap, stmt: &Stmt) -> bool
+    ensures { result ≡ held_in heap.now.vars stmt.now }
 {
     match stmt {
         Stmt::Group { body, ptrs, .. } => {
-            blocks_hold_cell(heap, funcs, body.as_slice(), depth)
-                || hold_cell(heap, ptrs.as_slice())
+            blocks_hold_cell(heap, body.as_slice()) || hold_cell(heap, ptrs.as_slice())
         }
-        Stmt::Call { func, .. } => called_holds_cell(heap, funcs, *func, depth),
         _ => false,
     }
-}
-
-/// The same of the body of a function that is called.
-#[cycle(blocks_hold_cell)]
-fn called_holds_cell(heap: &Heap, funcs: &List<Func>, called: u32, depth: usize) -> bool
-    ensures { result ≡ held_called (held_within heap.now.vars funcs.now depth) (slice_get funcs.now called) }
-{
-    if depth == 0 {
-        return false;
-    }
-    match funcs.get(called as usize) {
-        Some(func) => blocks_hold_cell(heap, funcs, func.body.as_slice(), depth - 1),
-        None => false,
-    }
-}
-
-/// The same of the statements that are left of a body.
-fn body_holds_cell(heap: &Heap, body: Body) -> bool
-    ensures { result ≡ held_among heap.now.vars body.entry.program.now.funcs (length body.entry.program.now.funcs)
-        body.entry.stmts.now }
-{
-    let program = body.program;
-    blocks_hold_cell(heap, &program.funcs, body.stmts, program.funcs.len())
 }
 
 /// Whether a variable that dies where a round is left refers to a cell.
@@ -134,10 +107,12 @@ fn round_holds_cell(heap: &Heap, stack: &[Item]) -> bool
     match stack.split_last() {
         None => false,
         Some((item, others)) => match *item {
-            Item::Block(body) => body_holds_cell(heap, body) || round_holds_cell(heap, others),
+            Item::Block(body) => {
+                blocks_hold_cell(heap, body.stmts) || round_holds_cell(heap, others)
+            }
             Item::Close { ptrs, .. } => hold_cell(heap, ptrs) || round_holds_cell(heap, others),
-            Item::Loop { .. } | Item::Exit { .. } => round_holds_cell(heap, others),
-            Item::Again { .. } | Item::DoAgain { .. } => false,
+            Item::Loop { .. } => round_holds_cell(heap, others),
+            Item::Exit { .. } | Item::Again { .. } | Item::DoAgain { .. } => false,
         },
     }
 }

@@ -27,26 +27,29 @@ abbrev pub first_of : ℕ → ℕ → ℕ → ℕ
 first_of zero i k = k
 first_of (suc w) i k = i
 
--- The variables that die in items up to the first Again, or up to their end, where these die then: of the pointer and
--- the data variables of a block those that `own` picks.
-abbrev pub dying : (List ℕ → List ℕ → List ℕ) → Items → List ℕ → List ℕ
-dying own Done base = base
-dying own (Do a m is) base = dying own is base
-dying own (Close ps ds m is) base = merged (own ps ds) (dying own is base)
-dying own (If c x y is) base = dying own is base
-dying own (Loop c n b is) base = dying own is base
-dying own (Again c n b is) base = []
-dying own (DoLoop c b is) base = dying own is base
-dying own (DoAgain c b is) base = []
-dying own (Enter vs ws m is) base = dying own is base
-dying own (Leave v vs a m is) base = dying own is base
-dying own (Exit v vs d m is) base = dying own is base
+-- The variables that die with a `break` or `continue` that stands before items: up to the first Again, or up to their
+-- end, where these die then. Of a block those that `own` picks of its pointer and its data variables; behind the begin of
+-- n calls those of no block; and none behind the end of the call in which the items begin.
+abbrev pub dying : (List ℕ → List ℕ → List ℕ) → ℕ → Items → List ℕ → List ℕ
+dying own n Done base = base
+dying own n (Do a m is) base = dying own n is base
+dying own zero (Close ps ds m is) base = merged (own ps ds) (dying own zero is base)
+dying own (suc n) (Close ps ds m is) base = dying own (suc n) is base
+dying own n (If c x y is) base = dying own n is base
+dying own n (Loop c d b is) base = dying own n is base
+dying own n (Again c d b is) base = []
+dying own n (DoLoop c b is) base = dying own n is base
+dying own n (DoAgain c b is) base = []
+dying own n (Enter vs ws m is) base = dying own (suc n) is base
+dying own n (Leave v vs a m is) base = dying own n is base
+dying own zero (Exit v vs d m is) base = []
+dying own (suc n) (Exit v vs d m is) base = dying own n is base
 
 abbrev pub ptrs_of : Items → List ℕ → List ℕ
-ptrs_of is base = dying (λ ps ds. ps) is base
+ptrs_of is base = dying (λ ps ds. ps) 0 is base
 
 abbrev pub datums_of : Items → List ℕ → List ℕ
-datums_of is base = dying (λ ps ds. ds) is base
+datums_of is base = dying (λ ps ds. ds) 0 is base
 
 -- what is around a part that stands before these items, where each call that begins in them ends in them
 abbrev pub inside : Around → Items → Around
@@ -68,9 +71,13 @@ closed w ps ds = record {
   back = w.back;
 }
 
--- what is around the body of a function whose call ends at b
+-- the same where a `return` leads to b
+abbrev pub back_at : Around → ℕ → Around
+back_at w b = record { leave = w.leave; again = w.again; ptrs = w.ptrs; datums = w.datums; back = b }
+
+-- what is around the body of a function whose call ends at b: nothing of the caller dies in it
 abbrev pub in_call : Around → ℕ → Around
-in_call w b = record { leave = w.leave; again = w.again; ptrs = w.ptrs; datums = w.datums; back = b }
+in_call w b = record { leave = w.leave; again = w.again; ptrs = []; datums = []; back = b }
 
 -- how many locations the end of a block takes
 abbrev pub close_width : List ℕ → List ℕ → ℕ
@@ -108,7 +115,7 @@ module _ (nv nd : ℕ) where
 
   -- what is around a part that stands before these items, whose first location is i
   abbrev pub before : Around → Items → ℕ → Around
-  before w is i = in_call (inside w is) (back_of is 0 i w.back)
+  before w is i = back_at (inside w is) (back_of is 0 i w.back)
 
   -- the edges of an act with this around it
   abbrev pub act_links : Around → Act → List Link

@@ -1,13 +1,13 @@
 use Rattle.std.proofs.Common.{◌≡◌, ◌≤◌, ◌+◌, drop, length}
-use Rattle.c_lower.specs.inner.Depths.{parts_of, parts_in, parts_ahead}
+use Rattle.c_lower.specs.inner.Depths.{parts_of, parts_in}
 use Rattle.c_lower.specs.inner.Sites.{inside_each}
 use Rattle.c_lower.proofs.site.Site.+close.Given as goal
 
 abbrev pub decreases-close_all : goal.decreases-close_all
-decreases-close_all l = parts_ahead l.self.now.funcs.now l.self.now.calls + parts_in l.stmts.now
+decreases-close_all l = parts_in l.stmts.now
 
 abbrev pub decreases-close_stmt : goal.decreases-close_stmt
-decreases-close_stmt l = parts_ahead l.self.now.funcs.now l.self.now.calls + parts_of l.stmt.now
+decreases-close_stmt l = parts_of l.stmt.now
 
 abbrev pub invariant-close_all-loop-at : goal.invariant-close_all-loop-at
 invariant-close_all-loop-at l = record {
