@@ -3,3 +3,5 @@ pub mod Lengths
 pub mod Marked
 pub mod Searching
 pub mod ShapeLemmas
+pub mod Watched
+pub mod Witnessed

@@ -1,1 +1,3 @@
 pub mod Marking
+pub mod Watching
+pub mod Witnesses

@@ -1,6 +1,6 @@
 ghost use Rattle.std.specs.Prelude.{◌≡◌, ◌<◌, ◌+◌, ◌^◌, [], length, MatchResult, IfOk, OnErr, map};
 ghost use Rattle.fore_base.specs.Stores.{var_of, set_var, datum_of, set_datum, load, store_at, load_datum, store_datum};
-ghost use Rattle.fore_base.specs.Stores.{kill, freed, grown};
+ghost use Rattle.fore_base.specs.Stores.{kill, freed, grown, set_each};
 ghost use Rattle.fore_base.specs.Stores as stores;
 ghost use Rattle.fore_base.specs.Heap.{leaks};
 ghost use Rattle.c_types.specs.Runs.{empty_store};
@@ -12,8 +12,11 @@ ghost use Rattle.std.specs.Vec.{vec_capacity};
 
 use crate::cells::{datum_field_of, end_cell, field_of, set_datum_field, set_field};
 use crate::leak::{Marks, has_leaked};
+use crate::renewing::renew;
 use crate::seats::seated;
 use crate::values::{dangle_all, set_all, set_these};
+use crate::watch::{Watch, enroll, forget, make_watch, no_watch, notice, resolve};
+use crate::witness::Witness;
 use fore_base::fault::Fault;
 use fore_base::list::List;
 use fore_base::memory::Mem;
@@ -22,21 +25,23 @@ use std::alloc::Global;
 use std::marker::Model;
 use std::mem::replace;
 
-/// The store of a run, whose cells stand in order of their numbers.
+/// The store of a run, whose cells stand in order of their numbers, and what is known of how each cell is reached.
 #[derive(Drop)]
 pub struct Heap {
     store: Store,
+    watch: Watch,
 }
 
 impl Model for Heap {
     ghost use Rattle.fore_base.specs.declared.store.Store.{Store};
     ghost use Rattle.c_heap.specs.Rising.{HasRisingCells};
+    ghost use Rattle.c_heap.specs.inner.Watching.{IsKept};
 
     ghost Value = { Store };
 
     ghost view = { λ heap. heap.store };
 
-    ghost invariant = { λ heap. HasRisingCells heap.store };
+    ghost invariant = { λ heap. HasRisingCells heap.store × IsKept heap.store heap.watch };
 }
 
 /// The number of the cell to which a value points.
@@ -59,6 +64,7 @@ impl Heap {
         let vars = List::filled(alloc, Value::Uninit, ptrs)?;
         let data_vars = List::filled(alloc, Datum::Undefined, datums)?;
         let cells = List::new(alloc);
+        let watch = no_watch(alloc)?;
         Ok(Heap {
             store: Store {
                 vars,
@@ -66,6 +72,7 @@ impl Heap {
                 cells,
                 next: 1,
             },
+            watch,
         })
     }
 
@@ -107,6 +114,8 @@ impl Heap {
     pub fn set_var(&mut self, var: u32, value: Value)
         ensures { self.new ≡ set_var self.old var value }
     {
+        let old = self.var(var);
+        forget(&self.store, &mut self.watch, old, Witness::Var(var));
         self.store.vars.set_within(var as usize, value)
     }
 
@@ -127,7 +136,14 @@ impl Heap {
         ensures keeps { IsNoLarger self.old self.new }
     {
         let number = followed(to)?;
+        let by = Witness::Field {
+            cell: number,
+            field,
+        };
+        let old = field_of(self.store.cells.as_slice(), number, field);
+        forget(&self.store, &mut self.watch, old, by);
         set_field(&mut self.store.cells, number, field, value);
+        notice(&self.store, &mut self.watch, value, number, field);
         Ok(())
     }
 
@@ -168,8 +184,17 @@ impl Heap {
     pub fn kill(&mut self, ptrs: &[u32], datums: &[u32])
         ensures { self.new ≡ kill ptrs.now datums.now self.old }
     {
-        set_these(&mut self.store.vars, ptrs, Value::Uninit);
+        self.kill_ptrs(ptrs);
         set_these(&mut self.store.data_vars, datums, Datum::Undefined)
+    }
+
+    /// Lets these pointer variables die.
+    fn kill_ptrs(&mut self, ptrs: &[u32])
+        ensures { self.new ≡ record self.old { vars = set_each self.old.vars ptrs.now Value.Uninit } }
+    {
+        for var in ptrs {
+            self.set_var(*var, Value::Uninit);
+        }
     }
 
     /// Ends the cell to which a value points, as `free` does. A fault leaves the store as it was.
@@ -195,6 +220,7 @@ impl Heap {
         ensures freed { freed self.old (Value.Cell number) ≡ Ok self.new }
         ensures keeps { IsNoLarger self.old self.new }
     {
+        self.watch.many = true;
         dangle_all(&mut self.store.vars, number);
         end_cell(&mut self.store.cells, number)
     }
@@ -213,22 +239,45 @@ impl Heap {
         let cells = replace(&mut self.store.cells, List::new(alloc));
         self.store.cells = seated(seats, cells, cell);
         self.store.next = number + 1;
+        enroll(&mut self.watch, number);
         number
     }
 
-    /// Whether some cell cannot be reached from the variables.
-    pub fn leaks(&self, marks: &mut Marks) -> bool
-        requires { HasRoomFor (length self.now.cells) marks.old }
-        ensures leaked { result ≡ leaks self.now }
+    /// Makes room for what is noted of a cell more, so that it need not be sought among all.
+    ///
+    /// # Errors
+    ///
+    /// Want of memory.
+    pub fn make_room(&mut self) -> Mem<()>
+        ensures { self.new ≡ self.old }
+    {
+        make_watch(&mut self.watch.seen)
+    }
+
+    /// Whether some cell cannot be reached from the variables. The walk over all cells is made only where a cell lost
+    /// the reference by which it was known to be reached, and no other is found nearby.
+    pub fn leaks(&mut self, marks: &mut Marks) -> bool
+        requires { HasRoomFor (length self.old.cells) marks.old }
+        ensures leaked { result ≡ leaks self.old }
+        ensures same { self.new ≡ self.old }
         ensures room { IsAsRoomy marks.old marks.new }
     {
-        has_leaked(marks, &self.store)
+        resolve(&self.store, &mut self.watch);
+        if !self.watch.many {
+            return false;
+        }
+        if has_leaked(marks, &self.store) {
+            return true;
+        }
+        renew(&self.store, &mut self.watch, &mut marks.order);
+        false
     }
 
     /// Lets all variables die.
     pub fn kill_all(&mut self)
         ensures { self.new ≡ all_dead self.old }
     {
+        self.watch.many = true;
         set_all(&mut self.store.vars, Value::Uninit);
         set_all(&mut self.store.data_vars, Datum::Undefined)
     }

@@ -50,14 +50,16 @@ impl Rooms {
         alloc: Global,
         shapes: &[Shape],
         made: Option<u32>,
-        heap: &Heap,
+        heap: &mut Heap,
     ) -> Mem<()>
-        ensures { OnOk result (IsRoomy shapes.now heap.now made self.new) }
+        ensures roomy { OnOk result (IsRoomy shapes.now heap.new made self.new) }
+        ensures same { heap.new ≡ heap.old }
     {
         let count = heap.count();
         let more = count.checked_add(1).ok_or(AllocError)?;
         make_room(&mut self.marks, more)?;
         make_seats(&mut self.seats, count)?;
+        heap.make_room()?;
         self.blank = blank_for(alloc, shapes, heap.next(), made)?;
         Ok(())
     }

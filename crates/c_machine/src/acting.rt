@@ -35,11 +35,12 @@ pub enum Pace {
 
 /// The end of a step that did something, or met a fault: the leak test. It is made only where a reference to a cell was
 /// lost.
-pub fn settle(heap: &Heap, marks: &mut Marks, done: Result<(), Fault>, lost: bool) -> Pace
-    requires room { HasRoomFor (length heap.now.cells) marks.old }
-    requires kept { lost ≡ false → OnOk done (leaks heap.now ≡ false) }
-    ensures turn { (is : Items) → turn_seen result is heap.now ≡ settled_as done heap.now is }
-    ensures unleaked { result ≡ Pace.Goes → leaks heap.now ≡ false }
+pub fn settle(heap: &mut Heap, marks: &mut Marks, done: Result<(), Fault>, lost: bool) -> Pace
+    requires room { HasRoomFor (length heap.old.cells) marks.old }
+    requires kept { lost ≡ false → OnOk done (leaks heap.old ≡ false) }
+    ensures turn { (is : Items) → turn_seen result is heap.new ≡ settled_as done heap.new is }
+    ensures unleaked { result ≡ Pace.Goes → leaks heap.new ≡ false }
+    ensures same { heap.new ≡ heap.old }
 {
     match done {
         Ok(()) => {

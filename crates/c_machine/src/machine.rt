@@ -197,7 +197,7 @@ impl<'p> Machine<'p> {
         let program = self.program;
         let shapes = program.shapes.structs.as_slice();
         let made = shape_made(self.control.front);
-        self.rooms.make(self.alloc, shapes, made, &self.heap)?;
+        self.rooms.make(self.alloc, shapes, made, &mut self.heap)?;
         self.reserved = true;
         Ok(())
     }

@@ -261,6 +261,7 @@ fn make(
 {
     let cell = blank_cell(alloc, shapes, heap.next(), shape)?;
     make_seats(&mut rooms.seats, heap.count())?;
+    heap.make_room()?;
     let number = heap.grow(alloc, &mut rooms.seats, cell);
     heap.set_var(to, Value::Cell(number));
     Ok(Went::On)
@@ -407,8 +408,9 @@ fn take(
 }
 
 /// The leak test at the end of an edge.
-fn settle(heap: &Heap, rooms: &mut Rooms, went: Went) -> Mem<Went>
-    ensures tested { IfOk result (λ all. leak_tested (pass_seen went heap.now) ≡ pass_seen all heap.now) }
+fn settle(heap: &mut Heap, rooms: &mut Rooms, went: Went) -> Mem<Went>
+    ensures tested { IfOk result (λ all. leak_tested (pass_seen went heap.old) ≡ pass_seen all heap.new) }
+    ensures same { heap.new ≡ heap.old }
     ensures stays { IfOk result (λ all. all ≡ Went.Stays → went ≡ Went.Stays) }
 {
     match went {

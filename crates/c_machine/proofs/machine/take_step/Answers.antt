@@ -36,8 +36,8 @@ returns-in-Close-clause-turn c =
     let old = c.args.control.now in
     close_comes c.args.shapes.now c.args.mode old.front old.parts.items
     (pending old.stack.items) c.args.heap.now c.args.choice
-    c.in-Close.ptrs c.in-Close.datums c.in-Close.line c.settle.result c.kill.new.self _ c.in-Close.is c.kill.ensures
-    c.settle.ensures.turn refl
+    c.in-Close.ptrs c.in-Close.datums c.in-Close.line c.settle.result c.settle.new.heap _ c.in-Close.is
+    (c.settle.ensures.same ∙ c.kill.ensures) c.settle.ensures.turn refl
 
 pub returns-in-Enter-clause-turn : goal.returns-in-Enter-clause-turn
 returns-in-Enter-clause-turn c =
