@@ -1,7 +1,7 @@
 -- What is known of cells stays known as the store changes.
 use Rattle.std.proofs.Common.{◌≡◌, ◌≢◌, ◌≤◌, ◌<◌, ◌⊎◌, inl, inr, ℕ, zero, suc, Bool, true, false, nat_eq, if◌then◌else◌}
 use Rattle.std.proofs.Common.{List, [], ◌∷◌, ◌++◌, length, get_or, set, map, replicate, refl, sym, ap, ◌∙◌, subst}
-use Rattle.std.proofs.Common.{true≢false, arith}
+use Rattle.std.proofs.Common.{true≢false, not, arith}
 use Rattle.std.proofs.lemmas.Bool.{eqb-true, cases_lt}
 use Rattle.std.proofs.lemmas.List.{get_or-set_other, set_past, get_or_past, get_or_append_left}
 use Rattle.std.proofs.lemmas.List.{get_or_push, length_push}
@@ -286,6 +286,15 @@ kept_grown s d w u next below number kept longer noted = record {
   cells = λ few n has. here few n (has_push s.cells d n has);
 }
   where
+    lower : (n c f : ℕ) → (seen_at w.seen.items n).by ≡ Field c f → (field_in s.cells c f ≡ Cell n)
+        × ((seen_at w.seen.items c).rank < (seen_at w.seen.items n).rank)
+        → (seen_at u.seen.items c).rank < (seen_at u.seen.items n).rank
+    lower n c f was h =
+        rw (
+          longer.other c (field_below s.cells next c f n below h.0),
+          longer.known n (ap is_known was),
+        ) h.1
+
     leads : u.many ≡ false → (n : ℕ) (by : Witness) → (seen_at u.seen.items n).by ≡ by
         → (seen_at w.seen.items n).by ≡ by → Leads s w.seen.items n (seen_at w.seen.items n).rank by
         → Leads (grown s d) u.seen.items n (seen_at u.seen.items n).rank (seen_at u.seen.items n).by
@@ -297,15 +306,6 @@ kept_grown s d w u next below number kept longer noted = record {
         subst (Leads (grown s d) u.seen.items n (seen_at u.seen.items n).rank) (sym is)
         (field_push s.cells d c f n h.0, lower n c f was h)
 
-    lower : (n c f : ℕ) → (seen_at w.seen.items n).by ≡ Field c f → (field_in s.cells c f ≡ Cell n)
-        × ((seen_at w.seen.items c).rank < (seen_at w.seen.items n).rank)
-        → (seen_at u.seen.items c).rank < (seen_at u.seen.items n).rank
-    lower n c f was h =
-        rw (
-          longer.other c (field_below s.cells next c f n below h.0),
-          longer.known n (ap is_known was),
-        ) h.1
-
     here : u.many ≡ false → (n : ℕ) → HasCell s.cells n ⊎ (d.number ≡ n)
         → IsWitnessed u.seen.items n ⊎ IsIn n u.pending.items
     here few n (inr e) =
@@ -315,3 +315,22 @@ kept_grown s d w u next below number kept longer noted = record {
       | inl known ↦ inl (subst (λ b. is_known b ≡ true) (sym (longer.own n)) known)
       | inr open' ↦ inr (subst (IsIn n) (sym (noted few).1) (in_left n w.pending.items (next ∷ []) open'))
     ]
+
+-- All witnesses are found anew
+
+each_has : (P : ℕ → Type 0) (cs : List CellRec) → Every (λ (c : CellRec). P c.number) cs → (n : ℕ) → HasCell cs n → P n
+each_has P [] all n has = absurd has
+each_has P (c ∷ cs) all n (inl e) = subst P e all.0
+each_has P (c ∷ cs) all n (inr has) = each_has P cs all.1 n has
+
+none_sound : (s : Store) (ws : List Seen) → ((n : ℕ) → seen_at ws n ≡ unseen) → AreWitnesses s ws
+none_sound s ws none n = subst (λ (x : Seen). Leads s ws n x.rank x.by) (sym (none n)) tt
+
+pub kept_renewed : (s : Store) (ws : List Seen) (w : Watch) (all : Bool) → ((n : ℕ) → seen_at ws n ≡ unseen)
+    → Stays s ws w.seen.items → w.many ≡ not all
+    → (all ≡ true → Every (λ (c : CellRec). IsWitnessed w.seen.items c.number) s.cells) → IsKept s w
+kept_renewed s ws w true none stays many each = record {
+  witnesses = λ few. stays.sound (none_sound s ws none);
+  cells = λ few n has. inl (each_has (IsWitnessed w.seen.items) s.cells (each refl) n has);
+}
+kept_renewed s ws w false none stays many each = kept_none s w many
