@@ -11,7 +11,7 @@ use Rattle.fore_base.specs.declared.store.Datum.{Datum}
 use Rattle.fore_base.specs.declared.store.CellRec.{CellRec}
 use Rattle.fore_base.specs.declared.store.Store.{Store}
 use Rattle.fore_base.specs.Lists.{IsIn, Every}
-use Rattle.fore_base.specs.Stores.{var_of, set_var, field_in, with_field, with_datum, grown}
+use Rattle.fore_base.specs.Stores.{var_of, set_var, field_in, with_field, with_datum, grown, dangle, dangle_in, without}
 use Rattle.fore_base.specs.Heap.{HasCell, leaks}
 use Rattle.fore_base.proofs.ListLemmas.{in_left, in_last}
 use Rattle.c_types.proofs.CellsKept.{IsBelow}
@@ -334,3 +334,71 @@ kept_renewed s ws w true none stays many each = record {
   cells = λ few n has. inl (each_has (IsWitnessed w.seen.items) s.cells (each refl) n has);
 }
 kept_renewed s ws w false none stays many each = kept_none s w many
+
+-- A cell ends
+
+dangled_else : (m n : ℕ) → nat_eq m n ≡ false → dangle n (Cell m) ≡ Cell m
+dangled_else m n is = rw is refl
+
+var_dangled : (vs : List Value) (n x : ℕ) → get_or (map (dangle n) vs) x Uninit ≡ dangle n (get_or vs x Uninit)
+var_dangled [] n x = refl
+var_dangled (v ∷ vs) n zero = refl
+var_dangled (v ∷ vs) n (suc x) = var_dangled vs n x
+
+field_without : (cs : List CellRec) (n q f : ℕ) → nat_eq q n ≡ false → field_in (without n cs) q f
+    ≡ dangle n (field_in cs q f)
+field_without [] n q f other = refl
+field_without (c ∷ cs) n q f other =
+    here (nat_eq c.number n) refl (nat_eq c.number q) refl (field_without cs n q f other)
+  where
+    here : (b : Bool) → nat_eq c.number n ≡ b → (b' : Bool) → nat_eq c.number q ≡ b'
+        → field_in (without n cs) q f ≡ dangle n (field_in cs q f)
+        → field_in (if b then without n cs else dangle_in n c ∷ without n cs) q f
+        ≡ dangle n (if b' then get_or c.fields f Uninit else field_in cs q f)
+    here true is true is' rest =
+        absurd (true≢false (sym (subst (λ x. nat_eq x n ≡ true) (eqb-true c.number q is') is) ∙ other))
+    here true is false is' rest = rest
+    here false is true is' rest = rw is' (var_dangled c.fields n f)
+    here false is false is' rest = rw is' rest
+
+has_without : (cs : List CellRec) (n m : ℕ) → HasCell (without n cs) m → HasCell cs m × (nat_eq m n ≡ false)
+has_without [] n m has = absurd has
+has_without (c ∷ cs) n m has = here (nat_eq c.number n) refl (has_without cs n m) has
+  where
+    later : HasCell cs m × (nat_eq m n ≡ false) → HasCell (c ∷ cs) m × (nat_eq m n ≡ false)
+    later h = (inr h.0, h.1)
+
+    here : (b : Bool) → nat_eq c.number n ≡ b → (HasCell (without n cs) m → HasCell cs m × (nat_eq m n ≡ false))
+        → HasCell (if b then without n cs else dangle_in n c ∷ without n cs) m
+        → HasCell (c ∷ cs) m × (nat_eq m n ≡ false)
+    here true is rest h = later (rest h)
+    here false is rest (inl e) = (inl e, subst (λ x. nat_eq x n ≡ false) e is)
+    here false is rest (inr h) = later (rest h)
+
+-- w is what was known before, of which no field of the cell n is a witness; u is without the witness of n itself
+pub kept_freed : (s : Store) (w u : Watch) (n : ℕ) → IsKept s w
+    → (w.many ≡ false → (m f : ℕ) → field_in s.cells n f ≡ Cell m → (seen_at w.seen.items m).by ≡ Field n f → ⊥)
+    → u.seen.items ≡ set w.seen.items n (released w.seen.items n) → u.pending.items ≡ w.pending.items
+    → u.many ≡ w.many → IsKept (record s { vars = map (dangle n) s.vars; cells = without n s.cells }) u
+kept_freed s w u n kept free seen pending many = record {
+  witnesses = λ few m. subst (λ (xs : List Seen). Leads t xs m (seen_at xs m).rank (seen_at xs m).by) (sym seen)
+      (here (sym many ∙ few) m (nat_eq m n) refl (seen_at after m).by refl
+      (released_sound s w.seen.items n (kept.witnesses (sym many ∙ few)) m));
+  cells = λ few m has.
+      let there : HasCell s.cells m × (nat_eq m n ≡ false) = has_without s.cells n m has in
+      elim (kept.cells (sym many ∙ few) m there.0) [
+        | inl known ↦ inl (subst (λ (xs : List Seen). IsWitnessed xs m) (sym seen)
+            (released_else w.seen.items n m there.1 known))
+        | inr open' ↦ inr (subst (IsIn m) (sym pending) open')
+      ];
+}
+  where
+    t : Store
+    t = record s { vars = map (dangle n) s.vars; cells = without n s.cells }
+
+    after : List Seen
+    after = set w.seen.items n (released w.seen.items n)
+
+    here : w.many ≡ false → (m : ℕ) (b : Bool) → nat_eq m n ≡ b → (by : Witness) → (seen_at after m).by ≡ by
+        → Leads s after m (seen_at after m).rank by → Leads t after m (seen_at after m).rank (seen_at after m).by
+    here few m b is by e h = {!!}

@@ -15,7 +15,7 @@ use crate::leak::{Marks, has_leaked};
 use crate::renewing::renew;
 use crate::seats::seated;
 use crate::values::{dangle_all, set_all, set_these};
-use crate::watch::{Watch, enroll, forget, make_watch, no_watch, notice, resolve};
+use crate::watch::{Watch, enroll, forget, forget_cell, make_watch, no_watch, notice, resolve};
 use crate::witness::Witness;
 use fore_base::fault::Fault;
 use fore_base::list::List;
@@ -220,7 +220,7 @@ impl Heap {
         ensures freed { freed self.old (Value.Cell number) ≡ Ok self.new }
         ensures keeps { IsNoLarger self.old self.new }
     {
-        self.watch.many = true;
+        forget_cell(&self.store, &mut self.watch, number);
         dangle_all(&mut self.store.vars, number);
         end_cell(&mut self.store.cells, number)
     }

@@ -1,13 +1,15 @@
 //! What a heap keeps of witnesses from step to step: each cell has one, or it is pending.
 
-ghost use Rattle.std.specs.Prelude.{◌≡◌, ◌++◌, ◌∷◌, [], true, false, slice_set, IfOk};
-ghost use Rattle.fore_base.specs.Stores.{grown};
+ghost use Rattle.std.specs.Prelude.{◌≡◌, ◌++◌, ◌∷◌, [], ℕ, true, false, slice_set, IfOk, Ok};
+ghost use Rattle.fore_base.specs.Stores.{grown, freed};
+ghost use Rattle.fore_base.specs.Lists.{IsIn};
 ghost use Rattle.fore_base.specs.declared.store.Store.{Store as StoreOf};
 ghost use Rattle.fore_base.specs.declared.store.CellRec.{CellRec as CellOf};
 ghost use Rattle.c_heap.specs.Rising.{CellsRiseFrom, HasRisingCells};
 ghost use Rattle.c_heap.specs.inner.Witnesses.{seen_at, released, is_known, IsLonger};
-ghost use Rattle.c_heap.specs.inner.Watching.{IsKept, IsFreeOf};
+ghost use Rattle.c_heap.specs.inner.Watching.{IsKept, IsFreeOf, AreFewer};
 
+use crate::search::position_of;
 use crate::witness::{Seen, UNSEEN, Witness, is_same, seek, seen_of, take_below, take_witness};
 use fore_base::memory::Mem;
 use fore_base::store::{Store, Value};
@@ -107,6 +109,51 @@ pub fn forget(store: &Store, watch: &mut Watch, value: Value, by: Witness)
             let_go(store, watch, number);
         }
     }
+}
+
+/// The same of any reference from a field of a cell that is about to end.
+fn forget_from(store: &Store, watch: &mut Watch, value: Value, cell: u64)
+    requires { IsKept store.now watch.old }
+    ensures kept { IsKept store.now watch.new }
+    ensures fewer { AreFewer watch.old watch.new }
+    ensures free { watch.new.many ≡ false
+        → (n f : ℕ) → value ≡ Value.Cell n → (seen_at watch.new.seen.items n).by ≡ Witness.Field cell f → ⊥ }
+{
+    if let Value::Cell(number) = value {
+        if let Witness::Field { cell: from, .. } = seen_of(watch.seen.as_slice(), number).by {
+            if from == cell {
+                let_go(store, watch, number);
+            }
+        }
+    }
+}
+
+/// The same of all its fields.
+fn forget_fields(store: &Store, watch: &mut Watch, values: &[Value], cell: u64)
+    requires { IsKept store.now watch.old }
+    ensures kept { IsKept store.now watch.new }
+    ensures free { watch.new.many ≡ false
+        → (n f : ℕ)
+        → IsIn (Value.Cell n) values.now
+        → (seen_at watch.new.seen.items n).by ≡ Witness.Field cell f
+        → ⊥ }
+{
+    for value in values {
+        forget_from(store, watch, *value, cell);
+    }
+}
+
+/// Takes note that a cell is about to end: no field of it is a witness, and it has none.
+pub fn forget_cell(store: &Store, watch: &mut Watch, number: u64)
+    requires rising { CellsRiseFrom 0 store.now.cells }
+    requires kept { IsKept store.now watch.old }
+    ensures { (t : StoreOf) → freed store.now (Value.Cell number) ≡ Ok t → IsKept t watch.new }
+{
+    let cells = store.cells.as_slice();
+    if let Some(at) = position_of(cells, number) {
+        forget_fields(store, watch, cells[at].fields.as_slice(), number);
+    }
+    release(&mut watch.seen, number)
 }
 
 /// Makes an entry for a cell that is made, if there is room for it.
