@@ -375,15 +375,58 @@ has_without (c ∷ cs) n m has = here (nat_eq c.number n) refl (has_without cs n
     here false is rest (inl e) = (inl e, subst (λ x. nat_eq x n ≡ false) e is)
     here false is rest (inr h) = later (rest h)
 
+released_same : (ws : List Seen) (n m : ℕ) → nat_eq m n ≡ false → seen_at (set ws n (released ws n)) m ≡ seen_at ws m
+released_same ws n m is = elim (cases_lt n (length ws)) [
+  | inl within ↦ seen_else ws n (released ws n) within m is
+  | inr past ↦ ap (λ (xs : List Seen). seen_at xs m) (set_past ws n (released ws n) past)
+]
+
+module _ (s : Store) (ws : List Seen) (n : ℕ)
+    (free : (m f : ℕ) → field_in s.cells n f ≡ Cell m → (seen_at ws m).by ≡ Field n f → ⊥) where
+  abbrev ended : Store
+  ended = record s { vars = map (dangle n) s.vars; cells = without n s.cells }
+
+  abbrev after : List Seen
+  after = set ws n (released ws n)
+
+  field_leads : (m c f : ℕ) → nat_eq m n ≡ false → (seen_at after m).by ≡ Field c f → field_in s.cells c f ≡ Cell m
+      → field_in (without n s.cells) c f ≡ Cell m
+  field_leads m c f is e h = here (nat_eq c n) refl
+    where
+      here : (b : Bool) → nat_eq c n ≡ b → field_in (without n s.cells) c f ≡ Cell m
+      here true same =
+          let at : c ≡ n = eqb-true c n same in
+          absurd
+          (free m f (subst (λ x. field_in s.cells x f ≡ Cell m) at h)
+          (ap (λ (x : Seen). x.by) (sym (released_same ws n m is)) ∙ e ∙ ap (λ x. Field x f) at))
+      here false other = field_without s.cells n c f other ∙ ap (dangle n) h ∙ dangled_else m n is
+
+  leads_ended : (m : ℕ) → nat_eq m n ≡ false → (by : Witness) → (seen_at after m).by ≡ by
+      → Leads s after m (seen_at after m).rank by → Leads ended after m (seen_at after m).rank by
+  leads_ended m is Missing e h = tt
+  leads_ended m is (Var x) e h = var_dangled s.vars n x ∙ ap (dangle n) h ∙ dangled_else m n is
+  leads_ended m is (Field c f) e h = (field_leads m c f is e h.0, h.1)
+
+  sound_ended : AreWitnesses s ws → AreWitnesses ended after
+  sound_ended sound m = here (nat_eq m n) refl (released_sound s ws n sound m)
+    where
+      here : (b : Bool) → nat_eq m n ≡ b → Leads s after m (seen_at after m).rank (seen_at after m).by
+          → Leads ended after m (seen_at after m).rank (seen_at after m).by
+      here true is h =
+          let gone : (seen_at after m).by ≡ Missing =
+          subst (λ x. (seen_at after x).by ≡ Missing) (sym (eqb-true m n is)) (released_here ws n) in
+          subst (Leads ended after m (seen_at after m).rank) (sym gone) tt
+      here false is h = leads_ended m is (seen_at after m).by refl h
+
 -- w is what was known before, of which no field of the cell n is a witness; u is without the witness of n itself
 pub kept_freed : (s : Store) (w u : Watch) (n : ℕ) → IsKept s w
     → (w.many ≡ false → (m f : ℕ) → field_in s.cells n f ≡ Cell m → (seen_at w.seen.items m).by ≡ Field n f → ⊥)
     → u.seen.items ≡ set w.seen.items n (released w.seen.items n) → u.pending.items ≡ w.pending.items
     → u.many ≡ w.many → IsKept (record s { vars = map (dangle n) s.vars; cells = without n s.cells }) u
 kept_freed s w u n kept free seen pending many = record {
-  witnesses = λ few m. subst (λ (xs : List Seen). Leads t xs m (seen_at xs m).rank (seen_at xs m).by) (sym seen)
-      (here (sym many ∙ few) m (nat_eq m n) refl (seen_at after m).by refl
-      (released_sound s w.seen.items n (kept.witnesses (sym many ∙ few)) m));
+  witnesses = λ few.
+      subst (AreWitnesses (record s { vars = map (dangle n) s.vars; cells = without n s.cells })) (sym seen)
+      (sound_ended s w.seen.items n (free (sym many ∙ few)) (kept.witnesses (sym many ∙ few)));
   cells = λ few m has.
       let there : HasCell s.cells m × (nat_eq m n ≡ false) = has_without s.cells n m has in
       elim (kept.cells (sym many ∙ few) m there.0) [
@@ -392,13 +435,3 @@ kept_freed s w u n kept free seen pending many = record {
         | inr open' ↦ inr (subst (IsIn m) (sym pending) open')
       ];
 }
-  where
-    t : Store
-    t = record s { vars = map (dangle n) s.vars; cells = without n s.cells }
-
-    after : List Seen
-    after = set w.seen.items n (released w.seen.items n)
-
-    here : w.many ≡ false → (m : ℕ) (b : Bool) → nat_eq m n ≡ b → (by : Witness) → (seen_at after m).by ≡ by
-        → Leads s after m (seen_at after m).rank by → Leads t after m (seen_at after m).rank (seen_at after m).by
-    here few m b is by e h = {!!}
