@@ -31,6 +31,7 @@ impl<'r, F: Files> Answers for Rooms<'r, F> {
             "automata" => room_automata::answer(rt, alloc, head, texts),
             "forests" => room_forests::answer(rt, alloc, head, texts),
             "sound" => room_sound::answer(alloc, head, texts),
+            "learning" => room_learning::answer(alloc, head, texts),
             "folds" => room_folds::answer(rt, alloc, head, texts),
             "abstraction" => room_abstraction::answer(rt, alloc, head, texts),
             "pools" => room_pools::answer(rt, alloc, head, texts),
