@@ -1,6 +1,7 @@
 // Kinds of rows on covering.
 //
-// - `covers | FOREST | FOREST`: whether the first covers the second.
+// - `covers | FOREST | FOREST`: whether the first covers the second. Both may have box edges, over the eight boxes of
+//   `row_forests`.
 // - `first_cover | FOREST | NODE | ..`: the place of the first node that covers the forest, 0 for the first; none where
 //   none does.
 
@@ -13,7 +14,7 @@ use fa_cover::{covers, first_cover};
 use fa_sound::Sound;
 use par_kit::crew::Crew;
 use par_kit::gate::NoGate;
-use row_forests::{face, sound_over, sounds_over};
+use row_forests::{boxed_over, face_with_boxes, sound_over, sounds_over};
 use std::alloc::Global;
 use std::thread::Threads;
 
@@ -25,7 +26,7 @@ pub fn answer_on_covers<R: Threads + Sync>(
     first: &str,
     others: &[&str],
 ) -> Result<String> {
-    let face = face(alloc)?;
+    let face = face_with_boxes(alloc)?;
     answer_over(rt, alloc, &face, kind, first, others)
 }
 
@@ -52,14 +53,14 @@ fn cover(alloc: Global, face: &Face, first: &str, others: &[&str]) -> Result<Str
 }
 
 fn does_cover(alloc: Global, face: &Face, wide: &str, narrow: &str) -> Result<bool> {
-    let wide = sound_over(alloc, face, wide)?;
+    let wide = boxed_over(alloc, face, wide)?;
     is_covered(alloc, face, &wide, narrow)
 }
 
 fn is_covered(alloc: Global, face: &Face, wide: &Sound, narrow: &str) -> Result<bool>
     requires { wide.now.face ≡ face.now }
 {
-    let narrow = sound_over(alloc, face, narrow)?;
+    let narrow = boxed_over(alloc, face, narrow)?;
     Ok(covers(alloc, wide, &narrow)?)
 }
 
