@@ -18,7 +18,7 @@ use Rattle.fore_report.specs.declared.verdict.Verdict.TheVariants.{Safe, Unsafe,
 use Rattle.fore_answer.specs.declared.answer.Answer.{Answer}
 use Rattle.fore_answer.specs.declared.answer.Answer.TheVariants.{Verified, Ran, Usage, Refused, ReadFault, NoMemory}
 use Rattle.fore_answer.specs.Answers.{answer_to}
-use Rattle.fore_answer.specs.Delivery.{IsUntouched, Wrote, WroteNothing, Told, IsCut, IsCutShort}
+use Rattle.fore_answer.specs.Delivery.{IsUntouched, Wrote, WroteNothing, CountedNone, Told, IsCut, IsCutShort}
 use Rattle.fore_answer.specs.Texts.{out_text, notes_text, status_of}
 use Rattle.fore_answer.specs.Writings.{Writing}
 
@@ -155,3 +155,13 @@ told_elsewhere h = cc (h.0)
 -- one byte on either sink is not nothing
 wrote_something : WroteNothing (sink (Some []) 0 (Some []) 0) (sink (Some []) 0 (Some (codes "r")) 0) → ⊥
 wrote_something h = cc (h.1)
+
+-- neither sink may have counted a fault, though nothing was appended
+counted_none : CountedNone (sink (Some []) 3 (Some []) 3) (sink None 0 None 0)
+counted_none = (refl, refl)
+
+counted_on_output : CountedNone (sink (Some []) 0 (Some []) 1) (sink (Some []) 0 (Some []) 0) → ⊥
+counted_on_output h = omega (arith, h.0)
+
+counted_on_errors : CountedNone (sink (Some []) 0 (Some []) 0) (sink (Some []) 0 (Some []) 1) → ⊥
+counted_on_errors h = omega (arith, h.1)

@@ -13,6 +13,10 @@ IsUntouched w = w.after.held ≡ w.before.held
 abbrev pub WroteNothing : Writing → Writing → Type 0
 WroteNothing out notes = IsUntouched out × IsUntouched notes
 
+-- neither counted a fault
+abbrev pub CountedNone : Writing → Writing → Type 0
+CountedNone out notes = (out.after.faults ≡ out.before.faults) × (notes.after.faults ≡ notes.before.faults)
+
 -- exactly this text was written
 abbrev pub Wrote : Writing → List ℕ → Type 0
 Wrote w text = Grew w.before.held w.after.held text

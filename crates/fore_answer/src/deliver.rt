@@ -2,7 +2,7 @@
 ghost use Rattle.std.specs.Prelude.{◌≡◌, ◌≤◌, ◌<◌, ◌⊎◌, ℕ, List, Ok};
 ghost use Rattle.fore_answer.specs.Writings.{writing_of};
 ghost use Rattle.fore_answer.specs.Texts.{status_of};
-ghost use Rattle.fore_answer.specs.Delivery.{IsCut, IsCutShort, IsUntouched, Told, Wrote, WroteNothing};
+ghost use Rattle.fore_answer.specs.Delivery.{CountedNone, IsCut, IsCutShort, IsUntouched, Told, Wrote, WroteNothing};
 
 use crate::answer::Answer;
 use crate::status::{NO_MEMORY, NOT_READ, NOT_WRITTEN, REFUSED, USAGE};
@@ -25,6 +25,8 @@ pub fn deliver<K: Sink, E: Sink>(alloc: Global, answer: Answer, out: &mut K, not
         → IsCutShort (writing_of K.Sink out.old out.new) (writing_of E.Sink notes.old notes.new) answer }
     ensures memory { result ≡ NO_MEMORY
         → WroteNothing (writing_of K.Sink out.old out.new) (writing_of E.Sink notes.old notes.new) }
+    ensures counts_none { result ≡ NO_MEMORY
+        → CountedNone (writing_of K.Sink out.old out.new) (writing_of E.Sink notes.old notes.new) }
     ensures out_never_falls { K.faults out.old ≤ K.faults out.new }
     ensures notes_never_falls { E.faults notes.old ≤ E.faults notes.new }
 {
@@ -50,6 +52,7 @@ fn write_report<S: Sink>(made: Mem<Text>, sink: &mut S, status: u8) -> u8
     ensures cut { result ≡ NOT_WRITTEN
         → (text : List ℕ) × (made ≡ Ok text) × IsCut (writing_of S.Sink sink.old sink.new) text }
     ensures memory { result ≡ NO_MEMORY → IsUntouched (writing_of S.Sink sink.old sink.new) }
+    ensures counts_none { result ≡ NO_MEMORY → S.faults sink.new ≡ S.faults sink.old }
     ensures never_falls { S.faults sink.old ≤ S.faults sink.new }
 {
     match made {

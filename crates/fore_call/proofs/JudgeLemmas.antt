@@ -1,13 +1,17 @@
 -- What is right for one file after another is right for what is asked, and what is right for that for the words.
 use Rattle.std.proofs.Common.{◌≡◌, ◌≤◌, inl, inr, List, [], ◌∷◌, ◌++◌, ℕ, None, Some, sym, ◌∙◌, ap, subst, refl, arith}
-use Rattle.std.proofs.lemmas.List.{append_assoc}
-use Rattle.fore_outside.specs.NamedFiles.{reading}
+use Rattle.std.proofs.Common.{length}
+use Rattle.std.proofs.lemmas.List.{append_assoc, length-append}
+use Rattle.fore_base.specs.declared.limits.TheConstants.{FILE_BYTES, BOX_FILE_BYTES}
+use Rattle.fore_outside.specs.NamedFiles.{reading, read_call}
 use Rattle.fore_outside.specs.Outside.{Rose}
 use Rattle.fore_outside.specs.declared.named_files.NamedFile.{NamedFile}
+use Rattle.fore_outside.specs.declared.named_files.ReadCall.{ReadCall}
 use Rattle.c_types.specs.Program.{Program}
 use Rattle.fa_core.specs.Boxes.{Boxes}
 use Rattle.c_types.specs.declared.mode.MallocMode.{MallocMode}
-use Rattle.fore_read.specs.Readings.{ShelfView, Reading, AreReadings, AreAtMost, ReadsAtMost}
+use Rattle.fore_read.specs.Readings.{ShelfView, Reading, AreReadings, AreCalls, AreAtMost, AreCallsAtMost, ReadsAtMost}
+use Rattle.fore_read.specs.Readings.{Gained}
 use Rattle.fore_read.specs.declared.fault.ReadFault.{ReadFault as Fault}
 use Rattle.fore_read.specs.declared.fault.ReadFault.TheVariants as fault
 use Rattle.fore_read.specs.Files.{GivesProgram, IsFileFault, GivesTable, IsTableFile, AreBoxesFault, AreRefusedBoxes}
@@ -21,7 +25,7 @@ use Rattle.fore_answer.specs.Answers.{answer_to}
 use Rattle.fore_answer.specs.declared.answer.Answer.{Answer}
 use Rattle.fore_answer.specs.declared.answer.Answer.TheVariants.{Verified, Ran, Usage, Refused, ReadFault, NoMemory}
 use Rattle.fore_call.specs.Calls.{Request}
-use Rattle.fore_call.specs.Names.{LetsRead}
+use Rattle.fore_call.specs.Names.{LetsRead, LetsCall}
 use Rattle.fore_call.specs.Verdict.{IsRight, IsRightFor, ReadsOnly}
 use Rattle.fore_call.specs.inner.Judging.{IsBoxesAnswer, IsVerdict, IsGeneratedAnswer, ReadsFor}
 
@@ -52,13 +56,12 @@ module _ (r : Reading) (path : List ℕ) where
 abbrev from : ShelfView → ShelfView → Reading
 from old new = record { before = old; after = new }
 
--- the readings of both, behind one another
-both_given : (old mid new : ShelfView) (file : NamedFile) (done : List NamedFile)
-    → AreReadings (from old mid) (file ∷ []) → AreReadings (from mid new) done
-    → AreReadings (from old new) (file ∷ done)
-both_given old mid new file [] one two = two ∙ one
-both_given old mid new file (other ∷ others) one two =
-    two ∙ ap (λ given. given ++ other ∷ others) one ∙ append_assoc old.given (file ∷ []) (other ∷ others)
+-- what was gained by both, behind one another
+both_gained : {X : Type 0} (old mid new : List X) (x : X) (more : List X) → Gained old mid (x ∷ [])
+    → Gained mid new more → Gained old new (x ∷ more)
+both_gained old mid new x [] one two = two ∙ one
+both_gained old mid new x (other ∷ others) one two =
+    two ∙ ap (λ all. all ++ other ∷ others) one ∙ append_assoc old (x ∷ []) (other ∷ others)
 
 -- a count that rose after it did not fall rose
 rose_later : (a b c : ℕ) → a ≤ b → Rose b c → Rose a c
@@ -66,11 +69,11 @@ rose_later a b c less (inl rose) = inl (omega (arith, less, rose))
 rose_later a b c less (inr top) = inr top
 
 module _ (old mid new : ShelfView) (path : List ℕ) (p : Program) (gives : GivesProgram (from old mid) path [] p)
-    (reads : ReadsAtMost (from old mid) path) (boxes : List ℕ) (settings : Settings) where
+    (reads : ReadsAtMost (from old mid) path FILE_BYTES) (boxes : List ℕ) (settings : Settings) where
   file_of_both : (done : List NamedFile) → AreReadings (from mid new) done → GivesProgram (from old new) path done p
   file_of_both done given = record {
     bytes = gives.bytes;
-    given = both_given old mid new (reading path gives.bytes) done gives.given given;
+    given = both_gained old.given mid.given new.given (reading path gives.bytes) done gives.given given;
     read = gives.read;
     is = gives.is;
   }
@@ -109,10 +112,34 @@ module _ (old mid new : ShelfView) (path : List ℕ) (p : Program) (gives : Give
   lets_both (file ∷ []) most = (refl, ap Some (sym most))
   lets_both (file ∷ other ∷ others) most = absurd most
 
-  pub reads_both : ReadsAtMost (from mid new) boxes → ReadsFor (from old new) both
+  -- a reading was answered, and so the call for the file was made
+  some_done : (done : List NamedFile) → AreReadings (from old mid) done → 1 ≤ length done
+  some_done [] none = absurd
+      (omega (arith, ap length (sym none ∙ gives.given), length-append old.given (reading path gives.bytes ∷ [])))
+  some_done (file ∷ files) some = omega arith
+
+  the_call : (calls : List ReadCall) → AreCallsAtMost path FILE_BYTES calls → length reads.done ≤ length calls
+      → calls ≡ read_call path FILE_BYTES ∷ []
+  the_call [] most less = absurd (let some = some_done reads.done reads.given in omega (arith, less, some))
+  the_call (call ∷ []) most less = ap (λ c. c ∷ []) most
+  the_call (call ∷ other ∷ others) most less = absurd most
+
+  lets_calls : (calls : List ReadCall) → AreCallsAtMost boxes BOX_FILE_BYTES calls
+      → LetsCall both (read_call path FILE_BYTES ∷ calls)
+  lets_calls [] most = (refl, refl)
+  lets_calls (call ∷ []) most =
+      (refl, refl, ap (λ (c : ReadCall). Some c.name) (sym most), ap (λ (c : ReadCall). c.limit) most)
+  lets_calls (call ∷ other ∷ others) most = absurd most
+
+  pub reads_both : ReadsAtMost (from mid new) boxes BOX_FILE_BYTES → ReadsFor (from old new) both
   reads_both h = record {
+    calls = read_call path FILE_BYTES ∷ h.calls;
+    called = both_gained old.calls mid.calls new.calls (read_call path FILE_BYTES) h.calls
+        (subst (AreCalls (from old mid)) (the_call reads.calls reads.calls_at_most reads.answered) reads.called)
+        h.called;
+    let_call = lets_calls h.calls h.calls_at_most;
     done = reading path gives.bytes ∷ h.done;
-    given = both_given old mid new (reading path gives.bytes) h.done gives.given h.given;
+    given = both_gained old.given mid.given new.given (reading path gives.bytes) h.done gives.given h.given;
     let_come = lets_both h.done h.at_most;
     holds = λ q. h.holds q ∙ reads.holds q;
   }
@@ -170,6 +197,9 @@ module _ (r : Request) (asked : Asked) (is : IsAsked r.words asked) where
 
   pub reads_for_words : ReadsFor r.reading asked → ReadsOnly r
   reads_for_words h = record {
+    calls = h.calls;
+    called = h.called;
+    let_call = inr (asked, is, h.let_call);
     done = h.done;
     reads = h.given;
     let_come = inr (asked, is, h.let_come);

@@ -2,8 +2,9 @@
 -- case of a definition is met by a row that fails if the case is wrong.
 use Rattle.std.proofs.Common.{◌≡◌, ◌<◌, inl, inr, ℕ, List, [], ◌∷◌, codes, length, ap, Option, Some}
 use Rattle.std.proofs.Common.{None, false, refl, sym, ◌∙◌, true≢false, arith}
-use Rattle.fore_outside.specs.NamedFiles.{reading}
+use Rattle.fore_outside.specs.NamedFiles.{reading, read_call}
 use Rattle.fore_outside.specs.declared.named_files.NamedFile.{NamedFile}
+use Rattle.fore_outside.specs.declared.named_files.ReadCall.{ReadCall}
 use Rattle.fore_base.specs.declared.shape.Shapes.{Shapes}
 use Rattle.c_types.specs.Program.{Program}
 use Rattle.c_types.specs.declared.mode.MallocMode.{MallocMode}
@@ -21,7 +22,7 @@ use Rattle.fore_read.specs.declared.fault.Refusal.TheVariants.{
   BoxRule,
   BoxLimit,
 }
-use Rattle.fore_read.specs.Readings.{ShelfView, Reading}
+use Rattle.fore_read.specs.Readings.{ShelfView, Reading, AreCalls}
 use Rattle.fore_read.specs.Files.{GivesProgram, IsTableFile}
 use Rattle.fore_report.specs.declared.verdict.Verdict.TheVariants.{Safe}
 use Rattle.fore_words.specs.declared.asked.Settings.{Settings}
@@ -32,7 +33,7 @@ use Rattle.fore_words.specs.Words.{IsAsked, AsksNothing}
 use Rattle.fore_answer.specs.declared.answer.Answer.TheVariants.{Verified, Ran, Usage}
 use Rattle.fore_answer.specs.Writings.{Writing}
 use Rattle.fore_call.specs.Calls.{Request, Call}
-use Rattle.fore_call.specs.Names.{file_of, boxes_of, LetsRead, LetRead, Names}
+use Rattle.fore_call.specs.Names.{file_of, boxes_of, LetsRead, LetRead, LetsCall, LetCall, Names}
 use Rattle.fore_answer.specs.Texts.{notes_text}
 use Rattle.fore_call.specs.Promises.{IsResult, IsDecision, IsRefusal, FitsBudget, Answers}
 use Rattle.c_front.specs.declared.broken.Broken.{Broken}
@@ -121,6 +122,46 @@ boxes_alone h = omega (arith, ap long h)
 three_read : LetsRead boxed (of_x (codes "int") ∷ of_box ∷ of_box ∷ []) → ⊥
 three_read h = h
 
+-- the same of calls for files, each with the limit of its kind of file
+abbrev call_x : ℕ → ReadCall
+call_x limit = read_call (codes "x.c") limit
+
+abbrev call_box : ℕ → ReadCall
+call_box limit = read_call (codes "x.box") limit
+
+none_called : LetsCall generated []
+none_called = tt
+
+file_called : LetsCall plain (call_x 1048576 ∷ []) × LetsCall boxed (call_x 1048576 ∷ [])
+file_called = ((refl, refl), (refl, refl))
+
+both_called : LetsCall boxed (call_x 1048576 ∷ call_box 65536 ∷ [])
+both_called = (refl, refl, refl, refl)
+
+with_limit_0 : LetsCall plain (call_x 0 ∷ []) → ⊥
+with_limit_0 h = omega (arith, h.1)
+
+with_the_limit_of_boxes : LetsCall plain (call_x 65536 ∷ []) → ⊥
+with_the_limit_of_boxes h = omega (arith, h.1)
+
+another_file_with_limit_0 : LetsCall plain (call_x 1048576 ∷ call_box 0 ∷ []) → ⊥
+another_file_with_limit_0 h = cc (h.2)
+
+file_again : LetsCall boxed (call_x 1048576 ∷ call_x 1048576 ∷ []) → ⊥
+file_again h = omega (arith, h.3)
+
+boxes_with_the_limit_of_files : LetsCall boxed (call_x 1048576 ∷ call_box 1048576 ∷ []) → ⊥
+boxes_with_the_limit_of_files h = omega (arith, h.3)
+
+boxes_called_first : LetsCall boxed (call_box 65536 ∷ []) → ⊥
+boxes_called_first h = omega (arith, h.1)
+
+boxes_called_again : LetsCall boxed (call_x 1048576 ∷ call_box 65536 ∷ call_box 65536 ∷ []) → ⊥
+boxes_called_again h = h
+
+file_called_for_generation : LetsCall generated (call_x 1048576 ∷ []) → ⊥
+file_called_for_generation h = cc (h.0)
+
 -- a sink that tells these bytes and faults before, and those after
 abbrev sink : Option (List ℕ) → ℕ → Option (List ℕ) → ℕ → Writing
 sink old failed new fails =
@@ -130,13 +171,13 @@ sink old failed new fails =
 
 -- a shelf that gave these readings, one that tells that it holds these bytes too, and one on which readings have failed
 abbrev gave : List NamedFile → ShelfView
-gave readings = record { holds = λ path. None; given = readings; faults = λ path. 0 }
+gave readings = record { holds = λ path. None; given = readings; calls = []; faults = λ path. 0 }
 
 abbrev tells : List ℕ → List NamedFile → ShelfView
-tells bytes readings = record { holds = λ path. Some bytes; given = readings; faults = λ path. 0 }
+tells bytes readings = record { holds = λ path. Some bytes; given = readings; calls = []; faults = λ path. 0 }
 
 abbrev failed : ℕ → ShelfView
-failed n = record { holds = λ path. None; given = []; faults = λ path. n }
+failed n = record { holds = λ path. None; given = []; calls = []; faults = λ path. n }
 
 -- from one moment to another
 abbrev from : ShelfView → ShelfView → Reading
@@ -258,7 +299,28 @@ module _ (words : List (List ℕ)) (nothing : AsksNothing words) where
   usage_for_nothing = nothing
 
   reads_nothing : ReadsOnly (asks idle)
-  reads_nothing = record { done = []; reads = refl; let_come = inl refl; kept = λ path. refl }
+  reads_nothing = record {
+    calls = [];
+    called = refl;
+    let_call = inl refl;
+    done = [];
+    reads = refl;
+    let_come = inl refl;
+    kept = λ path. refl;
+  }
+
+  calls_a_file : LetCall words (call_x 1048576 ∷ []) → ⊥
+  calls_a_file (inl none) = cc none
+  calls_a_file (inr h) = nothing h.0 h.1
+
+  -- a call for a file that gives nothing is one too
+  asks_in_vain : (after : ShelfView) → after.calls ≡ call_x 0 ∷ [] → ReadsOnly (asks (from (gave []) after)) → ⊥
+  asks_in_vain after e h = by h.calls h.called h.let_call
+    where
+      by : (cs : List ReadCall) → AreCalls (from (gave []) after) cs → LetCall words cs → ⊥
+      by [] c l = cc (sym e ∙ c)
+      by (x ∷ xs) c (inl none) = cc none
+      by (x ∷ xs) c (inr l) = nothing l.0 l.1
 
   reads_a_file : LetRead words (of_x (codes "int") ∷ []) → ⊥
   reads_a_file (inl none) = cc none

@@ -63,7 +63,7 @@ use Rattle.fore_answer.specs.declared.answer.Answer.{Answer}
 use Rattle.fore_answer.specs.declared.answer.Answer.TheVariants.{Verified, Ran, Usage, Refused, ReadFault, NoMemory}
 use Rattle.fore_answer.specs.Writings.{Writing}
 use Rattle.fore_call.specs.Calls.{Request, Call}
-use Rattle.fore_answer.specs.Delivery.{IsCutShort, Told, WroteNothing}
+use Rattle.fore_answer.specs.Delivery.{CountedNone, IsCutShort, Told, WroteNothing}
 use Rattle.fore_call.specs.Names.{Verifies, Runs, Generates, file_of, boxes_of}
 use Rattle.fore_call.specs.Promises.{IsResult, IsDecision, IsRefusal, FitsBudget, Answers, Reported, SummedUp}
 use Rattle.fore_call.specs.Promises.{Promises}
@@ -612,7 +612,8 @@ module _ (c : Call) (a : Answer) (right : IsRight c.request a) (reads : ReadsOnl
     (status : (c.status ≡ status_of a) ⊎ (c.status ≡ 6) ⊎ (c.status ≡ 7))
     (told : c.status ≡ status_of a → Told c.out c.notes a)
     (written : c.status ≡ 6 → IsCutShort c.out c.notes a)
-    (memory : c.status ≡ 7 → WroteNothing c.out c.notes) (breaks_none : BreaksNone) where
+    (memory : c.status ≡ 7 → WroteNothing c.out c.notes)
+    (counts_none : c.status ≡ 7 → CountedNone c.out c.notes) (breaks_none : BreaksNone) where
   own : (n : ℕ) → c.status ≡ n → n < 6 → c.status ≡ status_of a
   own n e less = own_status c.status n a status e less
 
@@ -791,7 +792,7 @@ module _ (c : Call) (a : Answer) (right : IsRight c.request a) (reads : ReadsOnl
     refused = refused;
     not_read = not_read;
     not_written = not_written;
-    no_memory = memory;
+    no_memory = λ e. (memory e, counts_none e);
     unread = λ none. unread c.request c.status a none right status;
     judges = λ p path settings named steady. judges steady p path settings named;
     runs = λ p path choices steps malloc named steady. runs steady p path choices steps malloc named;

@@ -1,6 +1,8 @@
 -- Which of the commands words ask for, and which files they name.
 use Rattle.std.specs.Prelude.{◌≡◌, ⊤, ◌⊎◌, ℕ, List, [], ◌∷◌, Option, Some, None}
+use Rattle.fore_base.specs.declared.limits.TheConstants.{FILE_BYTES, BOX_FILE_BYTES}
 use Rattle.fore_outside.specs.declared.named_files.NamedFile.{NamedFile}
+use Rattle.fore_outside.specs.declared.named_files.ReadCall.{ReadCall}
 use Rattle.c_types.specs.declared.mode.MallocMode.{MallocMode}
 use Rattle.fore_words.specs.declared.asked.Settings.{Settings}
 use Rattle.fore_words.specs.declared.asked.Kind.{Kind}
@@ -50,3 +52,16 @@ LetsRead asked (file ∷ boxes ∷ other ∷ others) = ⊥
 -- the words let these readings come: none, or what they ask lets them
 abbrev pub LetRead : List (List ℕ) → List NamedFile → Type 0
 LetRead words done = (done ≡ []) ⊎ ((asked : Asked) × IsAsked words asked × LetsRead asked done)
+
+-- what is asked lets these calls for files come: none; one for the C file, of at most 1,048,576 bytes; or one for it, and
+-- then one for the file of boxes, of at most 65,536 bytes
+abbrev pub LetsCall : Asked → List ReadCall → Type 0
+LetsCall asked [] = ⊤
+LetsCall asked (file ∷ []) = (file_of asked ≡ Some file.name) × (file.limit ≡ FILE_BYTES)
+LetsCall asked (file ∷ boxes ∷ []) = (file_of asked ≡ Some file.name) × (file.limit ≡ FILE_BYTES)
+    × (boxes_of asked ≡ Some boxes.name) × (boxes.limit ≡ BOX_FILE_BYTES)
+LetsCall asked (file ∷ boxes ∷ other ∷ others) = ⊥
+
+-- the words let these calls come: none, or what they ask lets them
+abbrev pub LetCall : List (List ℕ) → List ReadCall → Type 0
+LetCall words calls = (calls ≡ []) ⊎ ((asked : Asked) × IsAsked words asked × LetsCall asked calls)

@@ -29,7 +29,7 @@ use Rattle.fore_answer.specs.declared.status.TheConstants.{
   NO_MEMORY,
 }
 use Rattle.fore_call.specs.Calls.{Call}
-use Rattle.fore_answer.specs.Delivery.{IsCutShort, Told, WroteNothing}
+use Rattle.fore_answer.specs.Delivery.{CountedNone, IsCutShort, Told, WroteNothing}
 use Rattle.fore_call.specs.Names.{Verifies, Runs, Generates}
 use Rattle.fore_answer.specs.Texts.{run_status, status_of}
 use Rattle.fore_call.specs.Verdict.{
@@ -107,8 +107,8 @@ pub record Promises (c : Call) : Type 0 where
   -- a sink failed while a right answer was written, and got a beginning of it
   pub not_written : c.status ≡ NOT_WRITTEN
       → (due : Answer) × (status_of due < NOT_WRITTEN) × IsRight c.request due × IsCutShort c.out c.notes due
-  -- nothing was written
-  pub no_memory : c.status ≡ NO_MEMORY → WroteNothing c.out c.notes
+  -- nothing was written, and no sink failed
+  pub no_memory : c.status ≡ NO_MEMORY → WroteNothing c.out c.notes × CountedNone c.out c.notes
   -- words that ask nothing get no other status
   pub unread : AsksNothing c.request.words
       → (c.status ≡ USAGE) ⊎ (c.status ≡ NOT_WRITTEN) ⊎ (c.status ≡ NO_MEMORY)
@@ -141,7 +141,8 @@ pub record Promises (c : Call) : Type 0 where
       → NothingFailed c → IsRefusal c.status
   -- a generated program gets a verdict, or is refused
   pub judges_gen : Generates c.request.words → NothingFailed c → IsResult c.status ⊎ IsRefusal c.status
-  -- no file is read but the C file, and then the file of boxes, that the words name, each at most once
+  -- no file is asked for but the C file, and then the file of boxes, that the words name, each at most once, and of no
+  -- more bytes than it may have
   pub reads_only : ReadsOnly c.request
   -- there are no other statuses
   pub status : c.status < 8

@@ -4,6 +4,7 @@ use Rattle.fore_outside.specs.NamedFiles.{reading}
 use Rattle.fore_outside.specs.Outside.{Rose}
 use Rattle.fore_base.specs.declared.limits.TheConstants.{FILE_BYTES, BOX_FILE_BYTES}
 use Rattle.fore_outside.specs.declared.named_files.NamedFile.{NamedFile}
+use Rattle.fore_outside.specs.declared.named_files.ReadCall.{ReadCall}
 use Rattle.fore_base.specs.declared.shape.Shapes.{Shapes}
 use Rattle.c_types.specs.declared.outcome.Outcome.{Outcome}
 use Rattle.c_types.specs.Program.{Program}
@@ -14,7 +15,7 @@ use Rattle.fa_core.specs.Boxes.{Boxes}
 use Rattle.fa_text.specs.Files.{IsBoxFile, IsFirst}
 use Rattle.fa_text.specs.declared.fault.BoxFault.{BoxFault}
 use Rattle.fore_read.specs.declared.fault.Refusal.{Refusal}
-use Rattle.fore_read.specs.Readings.{Reading, AreReadings, HasFailed}
+use Rattle.fore_read.specs.Readings.{Reading, AreReadings, AreCalls, HasFailed}
 use Rattle.fore_read.specs.Files.{GivesProgram, RefusesFile, FailsFile, IsTableFile, AreRefusedBoxes}
 use Rattle.fore_report.specs.Reports.{IsReport}
 use Rattle.fore_report.specs.declared.verdict.Verdict.{Verdict}
@@ -28,7 +29,7 @@ use Rattle.fore_answer.specs.declared.answer.Answer.TheVariants.{Verified, Ran, 
 use Rattle.fore_call.specs.Calls.{Request, Call}
 use Rattle.fore_generated.specs.Generated.{RefusesGenerated}
 use Rattle.fore_call.specs.Generated.{IsGenerated}
-use Rattle.fore_call.specs.Names.{file_of, Names, LetRead}
+use Rattle.fore_call.specs.Names.{file_of, Names, LetRead, LetCall}
 use Rattle.fore_read.specs.Tables.{no_boxes}
 
 -- By what the shelf told before and after the call.
@@ -125,8 +126,12 @@ GeneratesTo r verdict text =
     (kind : Kind) × (phases : ℕ) × AsksToGen r.words kind phases
     × AreReadings r.reading [] × IsGenerated kind phases verdict text
 
--- the readings that were answered in this call are some that the words let come; and what the shelf holds stays
+-- the files that the shelf was asked for in this call, with their limits, are some that the words let come, and so are
+-- the readings that were answered; and what the shelf holds stays
 pub record ReadsOnly (r : Request) : Type 0 where
+  pub calls : List ReadCall
+  pub called : AreCalls r.reading calls
+  pub let_call : LetCall r.words calls
   pub done : List NamedFile
   pub reads : AreReadings r.reading done
   pub let_come : LetRead r.words done

@@ -25,6 +25,7 @@ use c_types::program::Typed;
 use fa_core::table::BoxTable;
 use fix_core::Explored;
 use fore_answer::answer::{Answer, answer_to};
+use fore_base::limits::{BOX_FILE_BYTES, FILE_BYTES};
 use fore_base::memory::Mem;
 use fore_outside::shelf::Shelf;
 use fore_read::{empty_table, read_program, read_table};
@@ -107,7 +108,7 @@ fn verify_file<R: Threads + Sync, L: Shelf, G: Gate>(
 ) -> Answer
     requires { SettingsFit settings }
     ensures right { IsRightFor (reading_of L.Shelf shelf.old shelf.new) (ask.Verify path.now None settings) result }
-    ensures reads { ReadsAtMost (reading_of L.Shelf shelf.old shelf.new) path.now }
+    ensures reads { ReadsAtMost (reading_of L.Shelf shelf.old shelf.new) path.now FILE_BYTES }
 {
     match read_program(alloc, shelf, path) {
         Ok(program) => verify_plain(rt, alloc, &program, settings, gate),
@@ -166,7 +167,7 @@ fn answer_boxes<R: Threads + Sync, L: Shelf, G: Gate>(
 ) -> Answer
     requires { SettingsFit settings }
     ensures right { IsBoxesAnswer (reading_of L.Shelf shelf.old shelf.new) path.now program.now settings result }
-    ensures reads { ReadsAtMost (reading_of L.Shelf shelf.old shelf.new) path.now }
+    ensures reads { ReadsAtMost (reading_of L.Shelf shelf.old shelf.new) path.now BOX_FILE_BYTES }
 {
     match read_table(alloc, shelf, path, &program.shapes) {
         Ok(table) => verify(rt, alloc, program, &table, settings, gate),
@@ -185,7 +186,7 @@ fn run_file<L: Shelf>(
 ) -> Answer
     ensures right { IsRightFor (reading_of L.Shelf shelf.old shelf.new)
         (ask.Run path.now choices.now steps malloc) result }
-    ensures reads { ReadsAtMost (reading_of L.Shelf shelf.old shelf.new) path.now }
+    ensures reads { ReadsAtMost (reading_of L.Shelf shelf.old shelf.new) path.now FILE_BYTES }
 {
     match read_program(alloc, shelf, path) {
         Ok(program) => run_program(alloc, &program, malloc, choices, steps),

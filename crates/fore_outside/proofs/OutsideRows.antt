@@ -69,7 +69,7 @@ no_file : bytes_of files (codes "a") ≡ None
 no_file = refl
 
 abbrev shelf : ℕ → ShelfState
-shelf calls = record { files = files; given = []; fails = 2 ∷ []; calls = calls; faults = 0 }
+shelf calls = record { files = files; given = []; read_calls = []; fails = 2 ∷ []; calls = calls; faults = 0 }
 
 found_at_first : found (shelf 0) (codes "a.c") ≡ Some (codes "int")
 unfolding is_listed

@@ -3,10 +3,15 @@ use Rattle.std.specs.Prelude.{ℕ, Bool, List, Option, nat_eq, find}
 use Rattle.std.specs.Option.{option_map}
 use Rattle.std.specs.Cmp.Lexicographic.{pointwise}
 use Rattle.fore_outside.specs.declared.named_files.NamedFile.{NamedFile}
+use Rattle.fore_outside.specs.declared.named_files.ReadCall.{ReadCall}
 
 -- one answered reading: the path that was asked for, and the bytes that it gave
 abbrev pub reading : List ℕ → List ℕ → NamedFile
 reading path bytes = record { name = path; bytes = bytes }
+
+-- one call for a file: the path that is asked for, and how many bytes it may have
+abbrev pub read_call : List ℕ → ℕ → ReadCall
+read_call path limit = record { name = path; limit = limit }
 
 -- the file has this path
 abbrev pub is_named : List ℕ → NamedFile → Bool

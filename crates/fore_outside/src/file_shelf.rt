@@ -1,11 +1,12 @@
 // A shelf over real files: the trusted edge of what is read.
-ghost use Rattle.std.specs.Prelude.{◌≡◌, ◌≢◌, ◌≤◌, ◌<◌, ◌++◌, ◌∷◌, ℕ, List, [], length, IfOk, IfSome, OnErr, IsErrOf};
-ghost use Rattle.fore_outside.specs.NamedFiles.{reading};
+ghost use Rattle.std.specs.Prelude.{◌≡◌, ◌≢◌, ◌≤◌, ◌<◌, ◌⊎◌, ◌++◌, ◌∷◌, ℕ, List, [], length, IfOk, IfSome, OnOk, OnErr};
+ghost use Rattle.std.specs.Prelude.{IsErrOf};
+ghost use Rattle.fore_outside.specs.NamedFiles.{reading, read_call};
 ghost use Rattle.fore_outside.specs.Outside.{Rose, untold};
 ghost use Rattle.fore_outside.specs.Counts.{one_more};
 ghost use Rattle.fore_outside.specs.declared.shelf.ShelfFault.TheVariants as ShelfFault;
 
-use crate::named_files::{NamedFile, note_reading};
+use crate::named_files::{NamedFile, ReadCall, note_call, note_reading};
 use crate::shelf::{Shelf, ShelfFault};
 use fore_base::list::List;
 use std::alloc::Global;
@@ -13,13 +14,13 @@ use std::io::Read;
 use std::rt::Files;
 use std::{fs, io};
 
-/// A shelf that reads real files. It does not tell what they hold; it keeps each reading that was answered, and one
-/// count of faults for all
-/// paths.
+/// A shelf that reads real files. It does not tell what they hold; it keeps each call that it looks for a file in, each
+/// reading that was answered, and one count of faults for all paths.
 #[derive(Drop)]
 pub struct FileShelf<'r, R: Files> {
     files: &'r R,
     given: List<NamedFile>,
+    calls: List<ReadCall>,
     faults: u64,
 }
 
@@ -28,10 +29,12 @@ impl<'r, R: Files> FileShelf<'r, R> {
     pub fn new(alloc: Global, files: &'r R) -> FileShelf<'r, R>
         ensures faults { result.faults ≡ 0 }
         ensures given { result.given ≡ [] }
+        ensures calls { result.calls ≡ [] }
     {
         FileShelf {
             files,
             given: List::new(alloc),
+            calls: List::new(alloc),
             faults: 0,
         }
     }
@@ -49,10 +52,12 @@ impl<'r, R: Files> Shelf for FileShelf<'r, R> {
 
     ghost given = { λ shelf. shelf.given };
 
+    ghost calls = { λ shelf. shelf.calls };
+
     ghost faults = { λ shelf _. shelf.faults };
 
-    /// Reads a real file, and keeps a copy of what it gives. At most `limit + 1` bytes are read; a read that a signal
-    /// interrupts is tried again.
+    /// Reads a real file, and keeps a copy of what it gives. The call is noted before a file is looked for. At most
+    /// `limit + 1` bytes are read; a read that a signal interrupts is tried again.
     ///
     /// # Errors
     ///
@@ -69,8 +74,14 @@ impl<'r, R: Files> Shelf for FileShelf<'r, R> {
             → self.new.faults ≡ self.old.faults }
         ensures gives { IfOk result (λ bytes. self.new.given ≡ self.old.given ++ reading path.now bytes ∷ []) }
         ensures gives_nothing { OnErr result (self.new.given ≡ self.old.given) }
+        ensures calls { OnOk result (self.new.calls ≡ self.old.calls ++ read_call path.now limit ∷ []) }
+        ensures may_call { OnErr result ((self.new.calls ≡ self.old.calls ++ read_call path.now limit ∷ [])
+            ⊎ (self.new.calls ≡ self.old.calls)) }
         ensures counted { IsErrOf result ShelfFault.Failed → self.new.faults ≡ one_more self.old.faults }
+        ensures noted { (IsErrOf result ShelfFault.Memory → ⊥)
+            → self.new.calls ≡ self.old.calls ++ read_call path.now limit ∷ [] }
     {
+        note_call(alloc, &mut self.calls, path, limit)?;
         let answer = read_noted(self.files, &mut self.given, alloc, path, limit);
         if let Err(ShelfFault::Failed) = answer {
             self.faults = self.faults.saturating_add(1);

@@ -1,13 +1,13 @@
 // A shelf in memory, for tests: what it holds is known, and calls fail where they are to.
-ghost use Rattle.std.specs.Prelude.{◌≡◌, ◌≢◌, ◌≤◌, ◌<◌, ◌↔◌, ◌++◌, [], ◌∷◌, ℕ, List, Some, None, length, is_none};
+ghost use Rattle.std.specs.Prelude.{◌≡◌, ◌≢◌, ◌≤◌, ◌<◌, ◌⊎◌, ◌↔◌, ◌++◌, [], ◌∷◌, ℕ, List, Some, None, length, is_none};
 ghost use Rattle.std.specs.Prelude.{if◌then◌else◌, IsNone, IsSomeAnd, IfOk, IfSome, IsErrOf, OnOk, OnErr};
 ghost use Rattle.std.specs.Option.{option_copied};
-ghost use Rattle.fore_outside.specs.NamedFiles.{bytes_of, reading};
+ghost use Rattle.fore_outside.specs.NamedFiles.{bytes_of, reading, read_call};
 ghost use Rattle.fore_outside.specs.declared.shelf.ShelfFault.TheVariants as ShelfFault;
 
 use crate::counts::is_listed;
 pub use crate::named_files::NamedFile;
-use crate::named_files::{find_named, note_reading, put_bytes};
+use crate::named_files::{ReadCall, find_named, note_call, note_reading, put_bytes};
 use crate::shelf::{Shelf, ShelfFault};
 use fore_base::list::List;
 use fore_base::memory::Mem;
@@ -19,6 +19,7 @@ use std::marker::Model;
 pub struct MemShelf {
     files: List<NamedFile>,
     given: List<NamedFile>,
+    read_calls: List<ReadCall>,
     fails: List<u64>,
     calls: u64,
     faults: u64,
@@ -34,6 +35,7 @@ impl Model for MemShelf {
         record {
           files = s.files;
           given = s.given;
+          read_calls = s.read_calls;
           fails = s.fails;
           calls = s.calls;
           faults = s.faults;
@@ -50,6 +52,7 @@ impl MemShelf {
         MemShelf {
             files: List::new(alloc),
             given: List::new(alloc),
+            read_calls: List::new(alloc),
             fails: List::new(alloc),
             calls: 0,
             faults: 0,
@@ -97,15 +100,17 @@ impl Shelf for MemShelf {
     ghost use Rattle.fore_outside.specs.Outside.{Rose};
     ghost use Rattle.fore_outside.specs.Counts.{one_more};
     ghost use Rattle.fore_outside.specs.MemShelves.{found};
-    ghost use Rattle.fore_outside.specs.NamedFiles.{bytes_of, reading};
+    ghost use Rattle.fore_outside.specs.NamedFiles.{bytes_of, reading, read_call};
 
     ghost holds = { λ shelf path. bytes_of shelf.files path };
 
     ghost given = { λ shelf. shelf.given };
 
+    ghost calls = { λ shelf. shelf.read_calls };
+
     ghost faults = { λ shelf path. shelf.faults };
 
-    /// Reads a file that it holds, and keeps a copy of what it gives.
+    /// Reads a file that it holds, and keeps a copy of what it gives. It notes the call, where there is memory for that.
     ///
     /// # Errors
     ///
@@ -124,6 +129,9 @@ impl Shelf for MemShelf {
             → self.new.faults ≡ self.old.faults }
         ensures gives { IfOk result (λ bytes. self.new.given ≡ self.old.given ++ reading path.now bytes ∷ []) }
         ensures gives_nothing { OnErr result (self.new.given ≡ self.old.given) }
+        ensures calls { OnOk result (self.new.read_calls ≡ self.old.read_calls ++ read_call path.now limit ∷ []) }
+        ensures may_call { OnErr result ((self.new.read_calls ≡ self.old.read_calls ++ read_call path.now limit ∷ [])
+            ⊎ (self.new.read_calls ≡ self.old.read_calls)) }
         ensures exactly_failed { IsErrOf result ShelfFault.Failed ↔ IsNone (found self.old path.now) }
         ensures exactly_long { IsErrOf result ShelfFault.TooLong
             ↔ IsSomeAnd (found self.old path.now) (λ held. limit < length held) }
@@ -131,10 +139,12 @@ impl Shelf for MemShelf {
         ensures after { self.new ≡ record self.old {
           calls = one_more self.old.calls;
           given = self.new.given;
+          read_calls = self.new.read_calls;
           faults = (if is_none (found self.old path.now) then one_more self.old.faults else self.old.faults);
         } }
     {
         self.calls = self.calls.saturating_add(1);
+        let noted = note_call(alloc, &mut self.read_calls, path, limit);
         match find_bytes(
             &self.files,
             path.as_bytes(),
@@ -146,6 +156,7 @@ impl Shelf for MemShelf {
             }
             Some(held) => {
                 let bytes = copy_within(alloc, held, limit)?;
+                noted?;
                 note_reading(alloc, &mut self.given, path, bytes.as_slice())?;
                 Ok(bytes)
             }

@@ -1,7 +1,7 @@
 // Files in memory, found by their paths.
 ghost use Rattle.std.specs.Prelude.{◌≡◌, ◌≢◌, ◌++◌, ◌∷◌, [], ℕ, List, Some, find, position, IfOk, OnOk, OnErr};
 ghost use Rattle.std.specs.Option.{option_copied};
-ghost use Rattle.fore_outside.specs.NamedFiles.{is_named, bytes_of, reading};
+ghost use Rattle.fore_outside.specs.NamedFiles.{is_named, bytes_of, reading, read_call};
 
 use fore_base::list::List;
 use fore_base::memory::Mem;
@@ -15,6 +15,15 @@ pub struct NamedFile {
     pub name: Text,
     /// Its bytes.
     pub bytes: Text,
+}
+
+/// A call for a file: the path that was asked for, and the limit.
+#[derive(Drop)]
+pub struct ReadCall {
+    /// The path.
+    pub name: Text,
+    /// How many bytes the file may have.
+    pub limit: usize,
 }
 
 /// Keeps a copy of the bytes under this path, in place of those that it had.
@@ -48,6 +57,19 @@ pub fn note_reading(
 {
     let file = copy_file(alloc, path, bytes)?;
     readings.push(file)
+}
+
+/// Notes one more call, for this path and with this limit, after those that were noted.
+///
+/// # Errors
+///
+/// Want of memory; then the calls are as they were.
+pub fn note_call(alloc: Global, calls: &mut List<ReadCall>, path: &str, limit: usize) -> Mem<()>
+    ensures ok { OnOk result (calls.new ≡ calls.old ++ read_call path.now limit ∷ []) }
+    ensures err { OnErr result (calls.new ≡ calls.old) }
+{
+    let name = Text::from_slice(alloc, path.as_bytes())?;
+    calls.push(ReadCall { name, limit })
 }
 
 // A file of this path and these bytes, in memory of its own.

@@ -1,9 +1,10 @@
 // Where files are read from.
-ghost use Rattle.std.specs.Prelude.{◌≡◌, ◌≤◌, ◌<◌, ◌++◌, ◌∷◌, [], ℕ, List, Option, length, IfOk, IfSome, OnErr};
-ghost use Rattle.std.specs.Prelude.{IsErrOf};
+ghost use Rattle.std.specs.Prelude.{◌≡◌, ◌≤◌, ◌<◌, ◌⊎◌, ◌++◌, ◌∷◌, [], ℕ, List, Option, length, IfOk, IfSome};
+ghost use Rattle.std.specs.Prelude.{IsErrOf, OnOk, OnErr};
 ghost use Rattle.fore_outside.specs.Outside.{Rose};
-ghost use Rattle.fore_outside.specs.NamedFiles.{reading};
+ghost use Rattle.fore_outside.specs.NamedFiles.{reading, read_call};
 ghost use Rattle.fore_outside.specs.declared.named_files.NamedFile.{NamedFile};
+ghost use Rattle.fore_outside.specs.declared.named_files.ReadCall.{ReadCall};
 
 use fore_base::list::List;
 use std::alloc::{AllocError, Global};
@@ -44,6 +45,10 @@ pub trait Shelf {
     // the readings that were answered, in their order: each the path that was asked for, and the bytes that it gave
     ghost given: { Self → List NamedFile };
 
+    // the calls of `read_all`, in their order: each the path that was asked for, and the limit. One that gives nothing
+    // may be left out, where there was no memory to note it
+    ghost calls: { Self → List ReadCall };
+
     // how often the reading of this path has failed; a shelf may keep one number for all paths
     ghost faults: { Self → List ℕ → ℕ };
 
@@ -64,5 +69,8 @@ pub trait Shelf {
         ensures counts_failed_alone { (IsErrOf result ShelfFault.Failed → ⊥) → (p : List ℕ)
             → faults self.new p ≡ faults self.old p }
         ensures gives { IfOk result (λ bytes. given self.new ≡ given self.old ++ reading path.now bytes ∷ []) }
-        ensures gives_nothing { OnErr result (given self.new ≡ given self.old) };
+        ensures gives_nothing { OnErr result (given self.new ≡ given self.old) }
+        ensures calls { OnOk result (calls self.new ≡ calls self.old ++ read_call path.now limit ∷ []) }
+        ensures may_call { OnErr result ((calls self.new ≡ calls self.old ++ read_call path.now limit ∷ [])
+            ⊎ (calls self.new ≡ calls self.old)) };
 }

@@ -1,7 +1,8 @@
 -- Worked values of the definitions, worked out by hand from docs/REPORTS.md.
 use Rattle.std.proofs.Common.{◌≡◌, inl, ℕ, List, [], ◌∷◌, codes, length, ap, Some, None, refl, arith}
-use Rattle.fore_outside.specs.NamedFiles.{reading}
+use Rattle.fore_outside.specs.NamedFiles.{reading, read_call}
 use Rattle.fore_outside.specs.declared.named_files.NamedFile.{NamedFile}
+use Rattle.fore_outside.specs.declared.named_files.ReadCall.{ReadCall}
 use Rattle.fore_base.specs.declared.shape.Shapes.{Shapes}
 use Rattle.c_front.specs.declared.broken.Broken.{Broken}
 use Rattle.c_front.specs.Files.{BreaksFirst}
@@ -19,8 +20,11 @@ use Rattle.fore_read.specs.Readings.{
   ShelfView,
   Reading,
   AreReadings,
+  AreCalls,
   HasFailed,
   AreAtMost,
+  AreCallsAtMost,
+  ReadsAtMost,
   IsRead,
   IsTooLong,
 }
@@ -29,10 +33,10 @@ use Rattle.fore_read.specs.Tables.{no_boxes}
 
 -- a shelf that gave these readings, and one on which readings have failed
 abbrev gave : List NamedFile → ShelfView
-gave readings = record { holds = λ path. None; given = readings; faults = λ path. 0 }
+gave readings = record { holds = λ path. None; given = readings; calls = []; faults = λ path. 0 }
 
 abbrev failed : ℕ → ShelfView
-failed n = record { holds = λ path. None; given = []; faults = λ path. n }
+failed n = record { holds = λ path. None; given = []; calls = []; faults = λ path. n }
 
 -- from one moment to another
 abbrev from : ShelfView → ShelfView → Reading
@@ -97,6 +101,63 @@ one_of_another h = omega (arith, ap length h)
 
 not_twice : AreAtMost (codes "x.c") (of_x [] ∷ of_x [] ∷ []) → ⊥
 not_twice h = h
+
+-- the same of calls: each has its path and its limit
+abbrev called : List ReadCall → ShelfView
+called calls = record { holds = λ path. None; given = []; calls = calls; faults = λ path. 0 }
+
+abbrev call_x : ℕ → ReadCall
+call_x limit = read_call (codes "x.c") limit
+
+no_call : AreCalls (from (called (call_x 9 ∷ [])) (called (call_x 9 ∷ []))) []
+no_call = refl
+
+a_second_call : AreCalls (from (called (call_x 9 ∷ [])) (called (call_x 9 ∷ call_x 0 ∷ []))) (call_x 0 ∷ [])
+a_second_call = refl
+
+no_call_left_out : AreCalls (from (called []) (called (call_x 9 ∷ call_x 0 ∷ []))) (call_x 9 ∷ []) → ⊥
+no_call_left_out h = cc h
+
+none_called : AreCallsAtMost (codes "x.c") 9 []
+none_called = tt
+
+one_called : AreCallsAtMost (codes "x.c") 9 (call_x 9 ∷ [])
+one_called = refl
+
+with_another_limit : AreCallsAtMost (codes "x.c") 9 (call_x 0 ∷ []) → ⊥
+with_another_limit h = let e = ap (λ (c : ReadCall). c.limit) h in omega (arith, e)
+
+for_another : AreCallsAtMost (codes "x.c") 9 (read_call (codes "x.box") 9 ∷ []) → ⊥
+for_another h = omega (arith, ap (λ (c : ReadCall). length c.name) h)
+
+called_twice : AreCallsAtMost (codes "x.c") 9 (call_x 9 ∷ call_x 9 ∷ []) → ⊥
+called_twice h = h
+
+-- a call that gave nothing may be all that there was, and none with another limit
+one_without_bytes : ReadsAtMost (from (called []) (called (call_x 9 ∷ []))) (codes "x.c") 9
+one_without_bytes = record {
+  calls = call_x 9 ∷ [];
+  called = refl;
+  calls_at_most = refl;
+  done = [];
+  given = refl;
+  at_most = tt;
+  answered = omega arith;
+  holds = λ p. refl;
+  never_falls = λ p. omega arith;
+}
+
+none_by_another_limit : ReadsAtMost (from (called []) (called (call_x 0 ∷ []))) (codes "x.c") 9 → ⊥
+none_by_another_limit h = by h.calls h.called h.calls_at_most
+  where
+    by : (cs : List ReadCall) → AreCalls (from (called []) (called (call_x 0 ∷ []))) cs
+        → AreCallsAtMost (codes "x.c") 9 cs → ⊥
+    by [] e most = cc e
+    by (c ∷ []) e most =
+        let first : List ReadCall → ℕ = λ l. (elim l [ [] ↦ 7 | x ∷ xs ↦ x.limit ]) in
+        let z : 0 ≡ 9 = ap first e ∙ ap (λ (x : ReadCall). x.limit) most in
+        omega (arith, z)
+    by (c ∷ d ∷ cs) e most = most
 
 -- the bytes are within the limit, which they may reach, and those that are told
 three_bytes : IsRead None 3 (codes "int")

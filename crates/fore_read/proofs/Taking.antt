@@ -1,6 +1,6 @@
 -- What a file that was read gives, by what its bytes are.
-use Rattle.std.proofs.Common.{ℕ, List, [], ◌∷◌, Result, Ok, Err, IfOk, IfErr, refl}
-use Rattle.fore_outside.specs.NamedFiles.{reading}
+use Rattle.std.proofs.Common.{◌≡◌, ◌≤◌, ◌⊎◌, inl, inr, ℕ, List, [], ◌∷◌, ◌++◌, Result, Ok, Err, IfOk, IfErr, refl, arith}
+use Rattle.fore_outside.specs.NamedFiles.{reading, read_call}
 use Rattle.fore_base.specs.declared.limits.TheConstants.{FILE_BYTES, BOX_FILE_BYTES}
 use Rattle.fore_base.specs.declared.shape.Shapes.{Shapes}
 use Rattle.c_types.specs.Program.{Program}
@@ -16,7 +16,7 @@ use Rattle.fore_read.specs.declared.fault.Refusal.TheVariants.{
   BoxRule,
   BoxLimit,
 }
-use Rattle.fore_read.specs.Readings.{Reading, AreReadings, IsRead}
+use Rattle.fore_read.specs.Readings.{Reading, AreReadings, IsRead, ReadsAtMost}
 use Rattle.fore_read.specs.Files.{GivesProgram, IsFileFault, GivesTable, AreBoxesFault}
 use Rattle.fore_read.specs.Bytes.{IsProgramFault, IsTableFault}
 
@@ -59,3 +59,32 @@ module _ (r : Reading) (path text : List ℕ) (shapes : Shapes) (given : AreRead
   boxes_fault (Err (Refused BoxesTooLong)) h = absurd h
   boxes_fault (Err Failed) h = absurd h
   boxes_fault (Err Memory) h = tt
+
+-- one call that gave nothing, whether it was noted or not
+module _ (r : Reading) (path : List ℕ) (limit : ℕ) where
+  pub nothing_read : r.after.given ≡ r.before.given
+      → (r.after.calls ≡ r.before.calls ++ read_call path limit ∷ []) ⊎ (r.after.calls ≡ r.before.calls)
+      → ((p : List ℕ) → r.after.holds p ≡ r.before.holds p) → ((p : List ℕ) → r.before.faults p ≤ r.after.faults p)
+      → ReadsAtMost r path limit
+  nothing_read given (inl noted) holds rises = record {
+    calls = read_call path limit ∷ [];
+    called = noted;
+    calls_at_most = refl;
+    done = [];
+    given = given;
+    at_most = tt;
+    answered = omega arith;
+    holds = holds;
+    never_falls = rises;
+  }
+  nothing_read given (inr unnoted) holds rises = record {
+    calls = [];
+    called = unnoted;
+    calls_at_most = tt;
+    done = [];
+    given = given;
+    at_most = tt;
+    answered = omega arith;
+    holds = holds;
+    never_falls = rises;
+  }

@@ -29,7 +29,7 @@ pub fn read_table<L: Shelf>(
 ) -> Result<BoxTable, ReadFault>
     ensures ok { IfOk result (GivesTable (reading_of L.Shelf shelf.old shelf.new) path.now shapes.now) }
     ensures err { IfErr result (AreBoxesFault (reading_of L.Shelf shelf.old shelf.new) path.now shapes.now) }
-    ensures reads { ReadsAtMost (reading_of L.Shelf shelf.old shelf.new) path.now }
+    ensures reads { ReadsAtMost (reading_of L.Shelf shelf.old shelf.new) path.now BOX_FILE_BYTES }
 {
     match shelf.read_all(alloc, path, BOX_FILE_BYTES) {
         Ok(text) => table_of(alloc, text.as_slice(), shapes),

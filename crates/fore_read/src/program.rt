@@ -21,7 +21,7 @@ use std::alloc::Global;
 pub fn read_program<L: Shelf>(alloc: Global, shelf: &mut L, path: &str) -> Result<Typed, ReadFault>
     ensures ok { IfOk result (GivesProgram (reading_of L.Shelf shelf.old shelf.new) path.now []) }
     ensures err { IfErr result (IsFileFault (reading_of L.Shelf shelf.old shelf.new) path.now) }
-    ensures reads { ReadsAtMost (reading_of L.Shelf shelf.old shelf.new) path.now }
+    ensures reads { ReadsAtMost (reading_of L.Shelf shelf.old shelf.new) path.now FILE_BYTES }
 {
     match shelf.read_all(alloc, path, FILE_BYTES) {
         Ok(bytes) => program_of(alloc, bytes.as_slice()),

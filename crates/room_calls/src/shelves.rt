@@ -5,7 +5,7 @@ ghost use Rattle.fore_outside.specs.declared.shelf.ShelfFault.TheVariants as She
 
 use fore_base::list::List;
 use fore_base::text::Text;
-use fore_outside::named_files::{NamedFile, note_reading};
+use fore_outside::named_files::{NamedFile, ReadCall, note_call, note_reading};
 use fore_outside::shelf::{Shelf, ShelfFault};
 use std::alloc::Global;
 
@@ -16,6 +16,7 @@ pub struct ChangingShelf {
     first: Text,
     later: Text,
     given: List<NamedFile>,
+    calls: List<ReadCall>,
 }
 
 impl ChangingShelf {
@@ -25,6 +26,7 @@ impl ChangingShelf {
             first,
             later,
             given: List::new(alloc),
+            calls: List::new(alloc),
         }
     }
 }
@@ -34,6 +36,8 @@ impl Shelf for ChangingShelf {
 
     ghost given = { λ shelf. shelf.given };
 
+    ghost calls = { λ shelf. shelf.calls };
+
     ghost faults = { λ _ _. 0 };
 
     fn read_all(
@@ -42,6 +46,7 @@ impl Shelf for ChangingShelf {
         path: &str,
         limit: usize,
     ) -> Result<List<u8>, ShelfFault> {
+        note_call(alloc, &mut self.calls, path, limit)?;
         let held = if self.given.is_empty() {
             self.first.as_slice()
         } else {

@@ -1,11 +1,12 @@
 -- Which answer is right for a program, and what one file and then another gives.
 use Rattle.std.specs.Prelude.{◌≡◌, ◌≤◌, ⊤, ℕ, List, []}
 use Rattle.fore_outside.specs.declared.named_files.NamedFile.{NamedFile}
+use Rattle.fore_outside.specs.declared.named_files.ReadCall.{ReadCall}
 use Rattle.c_types.specs.declared.mode.MallocMode.{MallocMode}
 use Rattle.c_types.specs.Program.{Program}
 use Rattle.c_types.specs.Runs.{run}
 use Rattle.fa_core.specs.Boxes.{Boxes}
-use Rattle.fore_read.specs.Readings.{Reading, AreReadings, HasFailed}
+use Rattle.fore_read.specs.Readings.{Reading, AreReadings, AreCalls, HasFailed}
 use Rattle.fore_read.specs.Files.{IsTableFile, AreRefusedBoxes}
 use Rattle.fore_report.specs.Reports.{IsReport}
 use Rattle.fore_report.specs.Summaries.{IsSummary}
@@ -18,7 +19,7 @@ use Rattle.fore_answer.specs.declared.answer.Answer.{Answer}
 use Rattle.fore_answer.specs.declared.answer.Answer.TheVariants.{Verified, Ran, Usage, Refused, ReadFault, NoMemory}
 use Rattle.fore_generated.specs.Generated.{gen_settings, RefusesGenerated}
 use Rattle.fore_call.specs.Generated.{IsGenerated}
-use Rattle.fore_call.specs.Names.{LetsRead}
+use Rattle.fore_call.specs.Names.{LetsRead, LetsCall}
 
 -- the height, the budget and the jobs are in their ranges
 pub record SettingsFit (settings : Settings) : Type 0 where
@@ -74,8 +75,11 @@ IsBoxesAnswer r boxes p settings (Refused why) =
 IsBoxesAnswer r boxes p settings ReadFault = AreReadings r [] × HasFailed r boxes
 IsBoxesAnswer r boxes p settings NoMemory = ⊤
 
--- only readings that what is asked lets come were answered, and what the shelf holds stays
+-- only files were asked for, and only readings answered, that what is asked lets come, and what the shelf holds stays
 pub record ReadsFor (r : Reading) (asked : Asked) : Type 0 where
+  pub calls : List ReadCall
+  pub called : AreCalls r calls
+  pub let_call : LetsCall asked calls
   pub done : List NamedFile
   pub given : AreReadings r done
   pub let_come : LetsRead asked done

@@ -11,4 +11,4 @@ returns g c = promises (record {
   status = c.deliver.result;
 }) c.answer-due.result c.answer-due.ensures.right c.answer-due.ensures.reads_only
     c.deliver.ensures.status c.deliver.ensures.told c.deliver.ensures.written c.deliver.ensures.memory
-    c.tables_break_none.ensures
+    c.deliver.ensures.counts_none c.tables_break_none.ensures

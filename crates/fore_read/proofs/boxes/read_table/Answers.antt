@@ -1,9 +1,10 @@
-use Rattle.std.proofs.Common.{[], ◌∷◌, IfOk, IfErr, refl, subst}
-use Rattle.fore_outside.specs.NamedFiles.{reading}
+use Rattle.std.proofs.Common.{[], ◌∷◌, IfOk, IfErr, refl, subst, arith}
+use Rattle.fore_base.specs.declared.limits.TheConstants.{BOX_FILE_BYTES}
+use Rattle.fore_outside.specs.NamedFiles.{reading, read_call}
 use Rattle.fa_text.specs.Files.{IsBoxFile}
 use Rattle.fore_read.specs.Readings.{reading_of}
 use Rattle.fore_read.specs.Bytes.{IsTableFault}
-use Rattle.fore_read.proofs.Taking.{gives_table, boxes_fault}
+use Rattle.fore_read.proofs.Taking.{gives_table, boxes_fault, nothing_read}
 use Rattle.fore_read.proofs.boxes.read_table.Goals as goal
 
 pub returns-in-Ok-clause-ok : goal.returns-in-Ok-clause-ok
@@ -24,9 +25,19 @@ returns-in-Ok-clause-err g c =
 
 pub returns-in-Ok-clause-reads : goal.returns-in-Ok-clause-reads
 returns-in-Ok-clause-reads g c = record {
+  calls = read_call c.args.path.now BOX_FILE_BYTES ∷ [];
+  called = c.in-Ok.ensures.calls;
+  calls_at_most = refl;
   done = reading c.args.path.now c.in-Ok.text ∷ [];
   given = c.in-Ok.ensures.gives;
   at_most = refl;
+  answered = omega arith;
   holds = c.in-Ok.ensures.keeps;
   never_falls = c.in-Ok.ensures.never_falls;
 }
+
+pub returns-in-Err-clause-reads : goal.returns-in-Err-clause-reads
+returns-in-Err-clause-reads g c =
+    let told = c.in-Err.ensures in
+    nothing_read (reading_of g.L.Shelf c.args.shelf.now c.read_all.new.self) c.args.path.now BOX_FILE_BYTES
+    told.gives_nothing told.may_call told.keeps told.never_falls
