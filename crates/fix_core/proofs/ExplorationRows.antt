@@ -5,3 +5,4 @@ mod Whole
 mod Ends
 mod Refused
 mod Cut
+mod Ranks

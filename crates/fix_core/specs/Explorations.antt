@@ -3,6 +3,8 @@ use Rattle.std.specs.Prelude.{◌≡◌, ◌↔◌, ◌⊎◌, ◌<◌, ◌≤�
 use Rattle.std.specs.Prelude.{Bool, true, false, Some, None}
 use Rattle.fore_base.specs.declared.fault.Fault.{Fault}
 use Rattle.fore_base.specs.declared.store.Store.{Store}
+use Rattle.fore_base.specs.Lists.{Every}
+use Rattle.ta_core.specs.Auto.{IsRanked}
 use Rattle.fa_core.specs.Boxes.{Boxes}
 use Rattle.fa_core.specs.Canonical.{IsCanonical}
 use Rattle.fa_core.specs.Covering.{Covers, Reduced}
@@ -93,6 +95,7 @@ module _ (T : Boxes) (g : ControlGraph) where
     pub no_folds : node.state.folds ≡ []
     pub face : node.state.face ≡ T.face
     pub sound : IsSound T.face node.state.forest
+    pub ranked : Every IsRanked node.state.forest.autos
     pub canonical : IsCanonical T.face node.state.forest
     pub reduced : Reduced node.state.forest
     pub vars : HasItsVars g node.state.forest
@@ -112,7 +115,8 @@ module _ (T : Boxes) (g : ControlGraph) where
   CalmUpTo n c = (d : ℕ) (e : Edge) → d ≤ c → IsEdge g d e → e.from ≡ n.head.location → IsCalm T n e
 
   -- An abstract trace: the way to a node, and an edge on which each member of `last`, which are members of the node,
-  -- meets the fault. The nodes before that node are done, and the edges before that edge.
+  -- meets the fault. Its rules are of states that there are, have as many children as their symbols, and take part in
+  -- trees. The nodes before that node are done, and the edges before that edge.
   pub record AbstractTrace (nodes : List Node) (tr : AbsTrace) : Type 0 where
     pub at : ℕ
     pub node : Node
@@ -127,6 +131,8 @@ module _ (T : Boxes) (g : ControlGraph) where
         × (passed_by T edge s ≡ Faulted tr.fault)
     pub face : tr.last.face ≡ T.face
     pub sound : IsSound T.face tr.last.forest
+    pub ranked : Every IsRanked tr.last.forest.autos
+    pub reduced : Reduced tr.last.forest
     pub line : tr.line ≡ edge.line
     pub steps : tr.steps ≡ length tr.nodes
     pub done : (j : ℕ) → j < at → Done nodes j

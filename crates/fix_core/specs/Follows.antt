@@ -84,12 +84,14 @@ module _ (T : Boxes) where
   IsStateAt false k F e a = IsCarried F e a
 
   -- the edge leads from F to the state, which is one of a loop head or not; its forest is sound, canonical and reduced,
-  -- and has the graph's variables, as the one before it was folded and abstracted has
+  -- its rules are of states that there are and have as many children as their symbols, and it has the graph's
+  -- variables, as the one before it was folded and abstracted has
   pub record Arrives (g : ControlGraph) (is_head : Bool) (k : ℕ) (F : Forest) (e : Edge) (a : AbstractState) :
       Type 0 where
     pub face : a.face ≡ T.face
     pub state : IsStateAt is_head k F e a
     pub sound : IsSound T.face a.forest
+    pub ranked : Every IsRanked a.forest.autos
     pub canonical : IsCanonical T.face a.forest
     pub reduced : Reduced a.forest
     pub vars : HasItsVars g a.forest

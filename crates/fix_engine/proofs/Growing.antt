@@ -303,6 +303,7 @@ module _ (T : Boxes) (g : ControlGraph) (k : ℕ) where
               face =
                   f.face;
               sound = f.sound;
+              ranked = f.ranked;
               canonical = f.canonical;
               reduced = f.reduced;
               vars = f.vars;

@@ -146,6 +146,7 @@ module _ (T : Boxes) (g : ControlGraph) (n : Node) (forest : n.state.forest ≡ 
     no_folds = no_folds;
     face = face;
     sound = rw forest (start_sound T.face g.ptrs g.datums);
+    ranked = rw forest tt;
     canonical = rw forest (start_canonical T.face g.ptrs g.datums);
     reduced = rw forest tt;
     vars =

@@ -484,10 +484,14 @@ module _ (T : Boxes) (g : ControlGraph) (k : ℕ) where
         choices = t.choices;
         way = t.way;
         all_choices = t.all_choices;
-        members = λ s m. let w = f.members s (subst (λ z. IsMember T z.forest s) t.last m) in
+        members = λ s m.
+            let here = covered_member T.face.shapes.structs T.defs bad.at.forest tr.last.forest s t.last.covered m in
+            let w = f.members s here in
             (w.0, ap (λ z. passed_by T z s) same ∙ w.1 ∙ ap Faulted (sym t.fault));
-        face = ap (λ z. z.face) t.last ∙ f.face;
-        sound = subst (λ z. IsSound T.face z.forest) (sym t.last) f.sound;
+        face = t.last.face ∙ f.face;
+        sound = subst (λ z. IsSound z tr.last.forest) (t.last.face ∙ f.face) t.last.sound;
+        ranked = t.last.ranked;
+        reduced = t.last.reduced;
         line = t.line;
         steps = t.steps;
         done = done;

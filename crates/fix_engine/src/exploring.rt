@@ -76,7 +76,8 @@ fn work<R: Threads + Sync, G: Gate>(task: &Task<'_, R>, crew: &Crew<'_, G>) -> M
         match how {
             Taken::All => at += round.len() as u32,
             Taken::Fault { edge, bad } => {
-                let trace = trace_to(task.alloc(), task.graph(), &nodes, here, edge, bad)?;
+                let (rt, alloc) = (task.rt(), task.alloc());
+                let trace = trace_to(rt, alloc, task.graph(), &nodes, here, edge, bad)?;
                 return Ok(Explored::Faulty { nodes, trace });
             }
             Taken::Full => return Ok(Explored::Spent { nodes }),

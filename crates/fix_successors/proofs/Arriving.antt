@@ -82,6 +82,7 @@ module _ (T : Boxes) (g : ControlGraph) (k : ℕ) (F : Forest) (e : Edge) where
               face = all.0.face;
               state = subst (λ z. IsStateAt T z k F e x.state) (sym head) st;
               sound = all.0.sound;
+              ranked = all.0.ranked;
               canonical = all.0.canonical;
               reduced = all.0.reduced;
               vars = all.0.vars;
@@ -237,6 +238,7 @@ module _ (T : Boxes) (g : ControlGraph) (k : ℕ) (F : Forest) (e : Edge) where
           face = n.face;
           state = subst (λ z. IsStateAt T z k F e (carried M)) (sym head) st;
           sound = sound;
+          ranked = cs.0.ranked;
           canonical = n.canonical;
           reduced = n.reduced;
           vars = n.vars;

@@ -76,6 +76,7 @@ module _ (T : Boxes) (g : ControlGraph) (k : ℕ) (M : SoundForest) (folds : Lis
         folds_are = ps.0.folds_are;
         face = ps.0.face;
         sound = ps.0.sound;
+        ranked = ps.0.ranked;
         canonical = ps.0.canonical;
         reduced = ps.0.reduced;
         vars =

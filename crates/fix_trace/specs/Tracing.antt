@@ -1,5 +1,10 @@
 -- The way to a node, found from its end.
 use Rattle.std.specs.Prelude.{◌≡◌, ◌<◌, ◌++◌, ℕ, List, [], ◌∷◌, length, Some, None}
+use Rattle.fore_base.specs.Lists.{Every}
+use Rattle.ta_core.specs.Auto.{IsRanked}
+use Rattle.fa_core.specs.Covering.{Covers, Reduced}
+use Rattle.fa_core.specs.Filled.{IsSound}
+use Rattle.fa_sound.specs.Soundness.{SoundForest}
 use Rattle.c_cfg.specs.Fans.{choice_list}
 use Rattle.c_cfg.specs.Graphs.{ControlGraph}
 use Rattle.c_cfg.specs.declared.graph.Edge.{Edge}
@@ -32,6 +37,15 @@ pub record IsOnWay (nodes : List Node) (back : List ℕ) (at : ℕ) (way choices
   pub way_here : IsWay nodes here way choices
   pub left : LeadsBack nodes back here at
 
+-- G has the members of F, over the same face, and is reduced: each state of it takes part in some tree
+pub record IsReducedOf (F G : SoundForest) : Type 0 where
+  pub covered : Covers F.forest G.forest
+  pub covers : Covers G.forest F.forest
+  pub face : G.face ≡ F.face
+  pub sound : IsSound G.face G.forest
+  pub ranked : Every IsRanked G.forest.autos
+  pub reduced : Reduced G.forest
+
 -- the trace to node `at` and over the edge of this number
 pub record IsTraceTo (g : ControlGraph) (nodes : List Node) (at number : ℕ) (bad : Bad) (tr : AbsTrace) : Type 0 where
   pub edge : Edge
@@ -42,5 +56,5 @@ pub record IsTraceTo (g : ControlGraph) (nodes : List Node) (at number : ℕ) (b
   pub all_choices : tr.choices ≡ choices ++ choice_list edge.choice
   pub line : tr.line ≡ edge.line
   pub fault : tr.fault ≡ bad.fault
-  pub last : tr.last ≡ bad.at
+  pub last : IsReducedOf bad.at tr.last
   pub steps : tr.steps ≡ length tr.nodes

@@ -2,15 +2,20 @@
 ghost use Rattle.std.specs.Prelude.{◌≡◌, ◌<◌, ◌++◌, length, IfOk};
 ghost use Rattle.c_cfg.specs.Fans.{choice_list};
 ghost use Rattle.fix_core.specs.Explorations.{IsWay};
-ghost use Rattle.fix_trace.specs.Tracing.{HasWays, IsTraceTo, LeadsBack};
+ghost use Rattle.fix_trace.specs.Tracing.{HasWays, IsReducedOf, IsTraceTo, LeadsBack};
 
 use c_cfg::graph::Graph;
+use fa_order::reduce_forest;
+use fa_sound::Sound;
 use fix_core::edges::edge_at;
 use fix_core::explored::AbsTrace;
 use fix_core::nodes::Nodes;
 use fore_base::list::List;
 use fore_base::memory::Mem;
+use par_kit::crew::Crew;
+use par_kit::gate::NoGate;
 use std::alloc::Global;
+use std::thread::Threads;
 use sym_step::Bad;
 
 /// The numbers of the nodes on the way to a node, and the choices of their heads.
@@ -20,8 +25,10 @@ struct Way {
     choices: List<u8>,
 }
 
-/// The trace to the node and over one edge more, on which the members of `bad` meet its fault. Err is want of memory.
-pub fn trace_to(
+/// The trace to the node and over one edge more, on which the members of `bad` meet its fault. These are kept reduced.
+/// Err is want of memory.
+pub fn trace_to<R: Threads + Sync>(
+    rt: &R,
     alloc: Global,
     graph: &Graph,
     nodes: &Nodes,
@@ -41,6 +48,7 @@ pub fn trace_to(
     let choices = with_choice(choices, edge.choice)?;
     let steps = nodes.len() as u64;
     let Bad { fault, at: last } = bad;
+    let last = reduced(rt, alloc, &last)?;
     Ok(AbsTrace {
         nodes,
         edge: number,
@@ -50,6 +58,19 @@ pub fn trace_to(
         steps,
         last,
     })
+}
+
+/// The forest with its components reduced. Err is want of memory.
+fn reduced<R: Threads + Sync>(rt: &R, alloc: Global, forest: &Sound) -> Mem<Sound>
+    ensures { IfOk result (IsReducedOf forest.now) }
+{
+    let alone = Crew {
+        jobs: 1,
+        gate: &NoGate,
+    };
+    let made = reduce_forest(rt, alloc, forest, &alone)?;
+    made.known();
+    Ok(made)
 }
 
 /// The numbers of the nodes from one back to the child of node 0. Err is want of memory.

@@ -17,11 +17,11 @@ use Rattle.fix_core.proofs.ExplorationRows.Bare.{table, bare, entry, null_sound,
 use Rattle.fix_core.proofs.ExplorationRows.Whole.{e0, e1, e2, e3, graph, n1, n2, nodes, whole, follows_null, done_0}
 use Rattle.fix_core.proofs.ExplorationRows.Whole.{done_1}
 
-abbrev null_one : SoundForest
+abbrev pub null_one : SoundForest
 null_one = record { forest = bare Null; face = table.face; signatures = [] }
 
 -- a trace with this line and so many steps
-abbrev trace_in : ℕ → ℕ → AbsTrace
+abbrev pub trace_in : ℕ → ℕ → AbsTrace
 trace_in line steps = record {
   nodes = 0 ∷ 1 ∷ 2 ∷ [];
   edge = 3;
@@ -66,6 +66,8 @@ traced = record {
   members = λ s m. (m, met s m);
   face = refl;
   sound = null_sound;
+  ranked = tt;
+  reduced = tt;
   line = refl;
   steps = refl;
   done = done;

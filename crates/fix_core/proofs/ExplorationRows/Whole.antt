@@ -86,6 +86,7 @@ first = record {
   no_folds = refl;
   face = refl;
   sound = unset_sound;
+  ranked = tt;
   canonical = unset_canonical;
   reduced = tt;
   vars = record { vars = refl; data_vars = refl };
@@ -196,6 +197,7 @@ arrives_1 = record {
   face = refl;
   state = record { no_middle = refl; no_folds = refl; case_of = to_null };
   sound = null_sound;
+  ranked = tt;
   canonical = null_canonical;
   reduced = tt;
   vars = record { vars = refl; data_vars = refl };
@@ -207,6 +209,7 @@ arrives_2 = record {
   face = refl;
   state = record { middle = bare Null; grouped = bare Null; case_of = still_null; settles = settled };
   sound = null_sound;
+  ranked = tt;
   canonical = null_canonical;
   reduced = tt;
   vars = record { vars = refl; data_vars = refl };

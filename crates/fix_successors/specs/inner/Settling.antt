@@ -2,6 +2,7 @@
 use Rattle.std.specs.Prelude.{◌≡◌, ◌++◌, ℕ, List, [], ◌∷◌, map, Some}
 use Rattle.fore_base.specs.declared.store.Store.{Store}
 use Rattle.fore_base.specs.Lists.{Every, Paired}
+use Rattle.ta_core.specs.Auto.{IsRanked}
 use Rattle.fa_core.specs.Boxes.{Boxes}
 use Rattle.fa_core.specs.Canonical.{IsCanonical}
 use Rattle.fa_core.specs.Covering.{Reduced}
@@ -57,6 +58,7 @@ module _ (T : Boxes) (g : ControlGraph) where
       pub face : a.face ≡ T.face
       pub abstracts : IsAbstraction T.face.boxes G.forest k a.forest
       pub sound : IsSound T.face a.forest
+      pub ranked : Every IsRanked a.forest.autos
       pub canonical : IsCanonical T.face a.forest
       pub reduced : Reduced a.forest
       pub kept : (s : Store) → IsMember T G.forest s → IsMember T a.forest s
@@ -67,6 +69,7 @@ module _ (T : Boxes) (g : ControlGraph) where
       pub folds_are : x.state.folds ≡ folds
       pub face : x.state.face ≡ T.face
       pub sound : IsSound T.face x.state.forest
+      pub ranked : Every IsRanked x.state.forest.autos
       pub canonical : IsCanonical T.face x.state.forest
       pub reduced : Reduced x.state.forest
       pub vars : HasItsVars g x.state.forest

@@ -30,6 +30,7 @@ returns g c =
           (subst (λ z. IsAbstraction G.face.boxes G.forest z made.forest) c.height.ensures
           c.in_ok-forest.ensures.abstraction);
       sound = subst (λ (z : Face). IsSound z made.forest) face c.known-2.ensures.sound;
+      ranked = c.known-2.ensures.ranked;
       canonical = subst (λ (z : Face). IsCanonical z made.forest) face c.in_ok-forest.ensures.canonical;
       reduced = c.in_ok-forest.ensures.reduced;
       kept = λ s m. c.in_ok-forest.ensures.members t.table.face.shapes.structs t.table.defs s m;

@@ -2,7 +2,7 @@ use Rattle.std.proofs.Common.{rules, refl}
 use Rattle.fix_trace.proofs.trace.trace_to.Goals as goal
 
 pub returns : goal.returns
-returns c = record {
+returns g c = record {
   edge = c.edge_at-edge.result.now;
   is_edge = c.edge_at-edge.ensures;
   number_is = refl;
@@ -11,6 +11,6 @@ returns c = record {
   all_choices = c.in_ok-choices.ensures;
   line = refl;
   fault = refl;
-  last = refl;
+  last = c.in_ok-last.ensures;
   steps = search rules;
 }
