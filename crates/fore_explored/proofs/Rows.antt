@@ -1,5 +1,6 @@
 -- Whole texts, worked out by hand.
-use Rattle.std.proofs.Common.{◌≡◌, ℕ, true, false, List, [], ◌∷◌, ◌++◌, codes, flat_map, Some, None, refl}
+use Rattle.std.proofs.Common.{◌≡◌, ℕ, true, false, List, [], ◌∷◌, ◌++◌, ap, arith, codes, flat_map, length, Some, None, refl}
+use Rattle.std.proofs.Common.{slice_index_or}
 use Rattle.std.specs.Fmt.{digits}
 use Rattle.fore_base.specs.declared.shape.FieldKind.TheVariants.{Pointer, Datum as IsDatum}
 use Rattle.fore_base.specs.declared.shape.Shapes.{Shapes}
@@ -21,7 +22,7 @@ use Rattle.fa_core.specs.declared.forest.Forest.{Forest}
 use Rattle.fa_core.specs.declared.forest.Target.TheVariants.{At, Null as NullTarget, Uninit as UninitTarget}
 use Rattle.fix_core.specs.States.{AbstractState}
 use Rattle.fix_core.specs.declared.nodes.Node.{Node}
-use Rattle.fore_explored.specs.Texts.{exploration_text, last_text}
+use Rattle.fore_explored.specs.Texts.{count_line, exploration_text, head_line, last_text}
 
 -- lines, each with its newline
 abbrev lines : List (List ℕ) → List ℕ
@@ -172,6 +173,36 @@ no_boxes : exploration_text no_table program MayFail graph 1 1 settled
     ∷ codes "s1 = null" ∷ codes "end" ∷ [])
 unfolding digits
 no_boxes = refl
+
+-- Texts that say something else than what was found
+
+-- the byte of this number
+abbrev byte : ℕ → List ℕ → ℕ
+byte n text = slice_index_or text n 0
+
+-- at the third node the edge of the second, and the choice of that
+with_the_edge_of_the_node_before : head_line graph.edges 2 (record {
+  location = 3;
+  parent = Some 1;
+  edge = Some 0;
+  choice = None;
+}) ≡ codes "node 2 loc 3 from 1 edge 1 line 12 choice -" ++ 10 ∷ [] → ⊥
+unfolding digits
+with_the_edge_of_the_node_before e = let z : 48 ≡ 49 = ap (byte 25) e in omega (arith, z)
+
+with_the_choice_of_the_node_before : head_line graph.edges 2 (record {
+  location = 3;
+  parent = Some 1;
+  edge = Some 0;
+  choice = None;
+}) ≡ codes "node 2 loc 3 from 1 edge 0 line 12 choice 1" ++ 10 ∷ [] → ⊥
+unfolding digits
+with_the_choice_of_the_node_before e = let z : 45 ≡ 49 = ap (byte 42) e in omega (arith, z)
+
+-- the count of three nodes where there is one
+with_the_count_of_other_nodes : count_line MayFail 1 1 (length settled) ≡ count_line MayFail 1 1 (length nodes) → ⊥
+unfolding digits
+with_the_count_of_other_nodes e = let z : 49 ≡ 51 = ap (byte 24) e in omega (arith, z)
 
 -- What a trace ends with
 

@@ -1,6 +1,6 @@
 -- Worked values, which guard the definitions in specs/: each is worked out by hand from docs/REPORTS.md, and each
 -- case of a definition is met by a row that fails if the case is wrong.
-use Rattle.std.proofs.Common.{◌≡◌, ℕ, List, [], ◌∷◌, ◌++◌, codes, refl}
+use Rattle.std.proofs.Common.{◌≡◌, ℕ, List, [], ◌∷◌, ◌++◌, ap, arith, codes, refl, slice_index_or}
 use Rattle.std.specs.Fmt.{digits}
 use Rattle.c_cfg.specs.Graphs.{ControlGraph}
 use Rattle.c_types.specs.Over.{IsFault}
@@ -66,6 +66,24 @@ on_double_free : unsafe_text DoubleFree 100 4160 (1 ∷ 0 ∷ 1 ∷ []) ≡ code
 unfolding digits
 on_double_free = refl
 
+-- Texts that say something else than what was found: the line, the step and the choices of another fault
+
+-- the byte of this number
+abbrev byte : ℕ → List ℕ → ℕ
+byte n text = slice_index_or text n 0
+
+in_another_line : unsafe_text Leak 5 2 [] ≡ unsafe_text Leak 6 2 [] → ⊥
+unfolding digits
+in_another_line e = let z : 53 ≡ 54 = ap (byte 25) e in omega (arith, z)
+
+in_another_step : unsafe_text Leak 5 2 [] ≡ unsafe_text Leak 5 3 [] → ⊥
+unfolding digits
+in_another_step e = let z : 50 ≡ 51 = ap (byte 32) e in omega (arith, z)
+
+by_other_choices : unsafe_text Leak 5 2 (1 ∷ []) ≡ unsafe_text Leak 5 2 (0 ∷ []) → ⊥
+unfolding digits
+by_other_choices e = let z : 49 ≡ 48 = ap (byte 42) e in omega (arith, z)
+
 on_budget : budget_text (codes "height 2") ≡ codes "UNKNOWN budget" ++ 10 ∷ codes "height 2"
 on_budget = refl
 
@@ -93,6 +111,11 @@ on_loose : (last : SoundForest) → trace_lines (loose last) ≡ codes "fault 1 
     ++ 10 ∷ codes "steps 3" ++ 10 ∷ codes "choices 110" ++ 10 ∷ codes "trace 0 3 12" ++ 10 ∷ codes "edge 17" ++ 10 ∷ []
 unfolding digits
 on_loose last = refl
+
+-- the number of the edge before the last
+by_the_edge_before : (last : SoundForest) → trace_lines (loose last) ≡ trace_lines (record (loose last) { edge = 16 }) → ⊥
+unfolding digits
+by_the_edge_before last e = let z : 55 ≡ 54 = ap (byte 72) e in omega (arith, z)
 
 -- the report on a trace: its lines, what it ends with, and the exploration
 on_trace : (t : Boxes) (p : Program) (trace : AbsTrace) (s : Store) → trace_text t p trace s (codes "height 1")
