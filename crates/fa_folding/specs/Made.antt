@@ -1,5 +1,6 @@
 -- The forest after a fold, as the code makes it: its roots are put in the order of those that are kept, with the inner
 -- roots behind them; the ports lose the fields, the input gains the slot of the box, and the inner roots are left out.
+-- These words follow the code. What a fold is says `FoldOf` of `fa_core`; no clause of meaning needs them.
 use Rattle.std.specs.Prelude.{◌≡◌, ◌≢◌, true, length, ℕ, if◌then◌else◌, nat_eq, List, [], ◌∷◌, ◌++◌, Option, Some, None}
 use Rattle.ta_core.specs.Auto.{Automaton, IsRanked}
 use Rattle.ta_core.specs.Single.{HasOneTop}

@@ -1,4 +1,6 @@
 -- The cell of an edge that gives a field to a root, lifted out of its component.
+-- These words follow the code. What is kept say `Regroups` and `RegroupsInto` of `fa_core`; no clause of meaning needs
+-- them.
 use Rattle.std.specs.Prelude.{◌≡◌, ◌<◌, ◌⊎◌, ℕ, zero, suc, ◌+◌, Bool, true, false, if◌then◌else◌, nat_eq, List, [], ◌∷◌}
 use Rattle.std.specs.Prelude.{◌++◌, map, flat_map, length, slice_set, slice_get, slice_index_or, Some}
 use Rattle.fore_base.specs.Lists.{IsIn}

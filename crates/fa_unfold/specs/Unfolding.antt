@@ -1,4 +1,6 @@
 -- Forests in which a box edge of a root is replaced by the inside of its box.
+-- These words follow the code. What is kept say `UnfoldsInto` and `UnfoldsFrom` (`Unfolded.antt`); no clause of meaning
+-- needs them.
 use Rattle.std.specs.Prelude.{◌≡◌, ℕ, Bool, true, false, ◌&&◌, nat_eq, if◌then◌else◌, not, List, [], ◌∷◌}
 use Rattle.std.specs.Prelude.{◌++◌, map, flat_map, length}
 use Rattle.ta_core.specs.Auto.{Automaton}
