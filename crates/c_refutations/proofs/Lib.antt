@@ -1,0 +1,3 @@
+mod Checking
+mod Graphs
+mod Running
