@@ -1,0 +1,4 @@
+pub mod Automata
+pub mod Explorations
+pub mod Phases
+pub mod Pools
