@@ -1,0 +1,22 @@
+// Laws of boxes that are learnt, each the contract of a function that does nothing.
+
+ghost use Rattle.std.specs.Prelude.{◌≡◌, ℕ};
+ghost use Rattle.fore_base.specs.Lists.{IsIn};
+ghost use Rattle.fa_core.specs.Boxes.{Boxes, HasNoVariables, IsBoxTable, SoundBox, names_of};
+ghost use Rattle.fa_core.specs.Words.{IsWord};
+ghost use Rattle.fa_core.specs.declared.boxes.BoxDef.{BoxDef};
+ghost use Rattle.fa_sound.specs.Soundness.{IsSigned, SoundForest};
+ghost use Rattle.fa_learn.specs.Learning.{IsCandidate};
+
+/// Over a table, each candidate of a sound forest over its face is a sound box. Its name is a word that no box of the
+/// table has, and its inside has no variables. So it can be put into the table.
+pub fn candidates_are_sound()
+    ensures sound { (t : Boxes) (s : SoundForest) (i j : ℕ) (g : BoxDef) → IsBoxTable t → IsSigned s → s.face ≡ t.face
+        → IsCandidate t s.forest i j g → SoundBox t.face t.defs g }
+    ensures word { (t : Boxes) (s : SoundForest) (i j : ℕ) (g : BoxDef) → IsBoxTable t
+        → IsCandidate t s.forest i j g → IsWord g.name }
+    ensures new { (t : Boxes) (s : SoundForest) (i j : ℕ) (g : BoxDef)
+        → IsCandidate t s.forest i j g → IsIn g.name (names_of t.defs) → ⊥ }
+    ensures inside { (t : Boxes) (s : SoundForest) (i j : ℕ) (g : BoxDef)
+        → IsCandidate t s.forest i j g → HasNoVariables g }
+{}
