@@ -9,14 +9,17 @@ use fore_base::store::CellRec;
 use std::alloc::AllocError;
 use std::mem::swap;
 
-/// Makes room for so many cells and one more.
+/// Makes room for so many cells and one more, and as many again, so that cells seldom move.
 pub fn make_seats(seats: &mut Vec<CellRec>, count: usize) -> Mem<()>
     requires { seats.old.items ≡ [] }
     ensures empty { seats.new.items ≡ [] }
     ensures room { OnOk result (count < vec_capacity seats.new) }
 {
     if seats.capacity() <= count {
-        let wanted = count.checked_add(1).ok_or(AllocError)?;
+        let wanted = count
+            .saturating_add(count)
+            .checked_add(1)
+            .ok_or(AllocError)?;
         seats.reserve(wanted)?;
     }
     Ok(())
