@@ -1,6 +1,6 @@
 -- Which variables die in the rest of a round, a statement at a time.
 use Rattle.std.specs.Prelude.{get_or, drop}
-use Rattle.std.proofs.Common.{◌≡◌, ℕ, zero, suc, ◌+◌, ◌<◌, ◌≤◌, List, [], ◌∷◌, length, refl, sym, ap, ◌∙◌, arith}
+use Rattle.std.proofs.Common.{◌≡◌, ℕ, zero, suc, ◌+◌, ◌<◌, ◌≤◌, List, [], ◌∷◌, ◌++◌, length, refl, sym, ap, ◌∙◌, arith}
 use Rattle.std.proofs.Common.{Option, Some, None, slice_get}
 use Rattle.c_types.specs.declared.program.Act.{Act}
 use Rattle.c_types.specs.declared.program.Cond.{Cond}
@@ -15,13 +15,30 @@ use Rattle.c_types.proofs.Layers.{by-Do, by-Branch, by-While, by-DoWhile, by-For
 use Rattle.c_types.proofs.Standing.{all_stand}
 use Rattle.c_lower.specs.declared.around.Around.{Around}
 use Rattle.c_lower.specs.inner.Emitting.{dying, datums_of, inside, closed, items_one, items_in, inside_stmt, inside_all}
+use Rattle.c_lower.specs.inner.Emitting.{rests_all}
 use Rattle.c_lower.proofs.Standing.{items-more, stmt_whole, all_whole}
 use Rattle.c_lower.proofs.Joined.{inside_both}
-use Rattle.std.proofs.lemmas.List.{drop_all}
+use Rattle.std.proofs.lemmas.List.{drop_all, length-append}
 
 pub closes_closed : (w : Around) (ps ds : List ℕ) (m : ℕ) → inside w (closes ps ds m Done) ≡ closed w ps ds
 closes_closed w [] [] m = refl
 closes_closed w _ _ m = refl
+
+-- what is there, if it is
+abbrev got : Around → Option Around → Around
+got other None = other
+got other (Some inner) = inner
+
+module _ {A : Type 0} where
+  get_behind : (xs : List A) (x : A) (i : ℕ) → i ≡ length xs → slice_get (xs ++ x ∷ []) i ≡ Some x
+  get_behind [] x i e = ap (slice_get (x ∷ [])) e
+  get_behind (y ∷ xs) x zero e = absurd (omega (arith, e))
+  get_behind (y ∷ xs) x (suc i) e = get_behind xs x i (omega (arith, e))
+
+  get_before : (xs : List A) (x : A) (i : ℕ) → i < length xs → slice_get (xs ++ x ∷ []) i ≡ slice_get xs i
+  get_before [] x i h = absurd (omega (arith, h))
+  get_before (y ∷ xs) x zero h = refl
+  get_before (y ∷ xs) x (suc i) h = get_before xs x i (omega (arith, h))
 
 -- an act closes no block
 abbrev ClosesNone : (Items → Items) → Type 0
@@ -124,7 +141,49 @@ module _ (funcs : List Func) where
     pub inside-end : (w : Around) (n : ℕ) (ss : List Stmt) → length ss ≤ n → inside_all funcs deep w (drop n ss) ≡ w
     inside-end w n ss h = ap (inside_all funcs deep w) (drop_all n ss h) ∙ inside-none w
 
+    -- what is around each statement of a list
+
+    pub rests-end : (w : Around) (n : ℕ) (ss : List Stmt) → length ss ≤ n → rests_all funcs deep w (drop n ss) ≡ []
+    unfolding rests_all
+    rests-end w n ss h = ap (rests_all funcs deep w) (drop_all n ss h)
+
+    pub rests-drop : (w : Around) (i : ℕ) (ss : List Stmt) → i < length ss
+        → rests_all funcs deep w (drop i ss)
+        ≡ rests_all funcs deep w (drop (i + 1) ss) ++ inside_all funcs deep w (drop (i + 1) ss) ∷ []
+    unfolding rests_all
+    rests-drop w i [] h = absurd (omega (arith, h))
+    rests-drop w zero (x ∷ ss) h = refl
+    rests-drop w (suc i) (x ∷ ss) h = let q : suc i + 1 ≡ suc (i + 1) = omega arith in
+        rw q (rests-drop w i ss (omega (arith, h)))
+
+    pub rests-long : (w : Around) (ss : List Stmt) → length (rests_all funcs deep w ss) ≡ length ss
+    unfolding rests_all
+    rests-long w [] = refl
+    rests-long w (s ∷ ss) =
+        let e = length-append (rests_all funcs deep w ss) (inside_all funcs deep w ss ∷ []) in
+        omega (arith, e, rests-long w ss)
+
+    pub rests-at : (w : Around) (ss : List Stmt) (at i : ℕ) → i + 1 + at ≡ length ss
+        → slice_get (rests_all funcs deep w ss) i ≡ Some (inside_all funcs deep w (drop (at + 1) ss))
+    unfolding rests_all
+    rests-at w [] at i h = absurd (omega (arith, h))
+    rests-at w (s ∷ ss) zero i h =
+        get_behind (rests_all funcs deep w ss) (inside_all funcs deep w ss) i (omega (arith, h, rests-long w ss))
+    rests-at w (s ∷ ss) (suc at) i h =
+        let q : suc at + 1 ≡ suc (at + 1) = omega arith in
+        rw q
+        (get_before (rests_all funcs deep w ss) (inside_all funcs deep w ss) i (omega (arith, h, rests-long w ss))
+        ∙ rests-at w ss at i (omega (arith, h)))
+
+    pub rest-is : (w : Around) (ss : List Stmt) (at i : ℕ) (rests : List Around) (inner : Around)
+        → rests ≡ rests_all funcs deep w ss → slice_get rests i ≡ Some inner → i + 1 + at ≡ length ss
+        → inner ≡ inside_all funcs deep w (drop (at + 1) ss)
+    rest-is w ss at i rests inner r e h =
+        ap (got inner) (sym e ∙ ap (λ (rs : List Around). slice_get rs i) r ∙ rests-at w ss at i h)
+
 pub ruleset closing = (
+  rests-end,
+  rests-drop,
   inside-none,
   inside-end,
   inside-drop,

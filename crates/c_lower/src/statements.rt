@@ -1,5 +1,5 @@
 // The edges of statements.
-ghost use Rattle.std.specs.Prelude.{◌≡◌, ◌<◌, ◌+◌, ◌++◌, drop, length, OnOk, IfOk};
+ghost use Rattle.std.specs.Prelude.{◌≡◌, ◌++◌, OnOk, IfOk};
 ghost use Rattle.c_lower.specs.inner.Emitting.{step_to, close_edges};
 ghost use Rattle.c_lower.specs.inner.Sites.{act_edges, stmt_edges, all_edges, branch_test, branch_spans, loop_test};
 ghost use Rattle.c_lower.specs.inner.Sites.{loop_spans, do_span, do_test, group_spans};
@@ -13,14 +13,6 @@ use c_links::chain::{add_chain, add_edge};
 use c_types::program::{Act, Cond, Stmt};
 use fore_base::list::{Copies, List};
 use fore_base::memory::Mem;
-
-/// The statements after the one at a place.
-fn all_after(body: &[Stmt], at: usize) -> &[Stmt]
-    requires { at < length body.now }
-    ensures { result.now ≡ drop (at + 1) body.now }
-{
-    body.split_at(at + 1).1
-}
 
 impl<'p> Site<'p> {
     fn add_act(
@@ -140,13 +132,14 @@ impl<'p> Site<'p> {
         ensures { OnOk result (edges.new ≡ edges.old ++ all_edges self.now body.now around.now span) }
     {
         let end = self.after_all(body, span.from)?;
+        let rests = self.rests(around, body)?;
         let mut from = span.from;
         for at in 0..body.len() {
             let stmt = &body[at];
             let next = self.after_stmt(stmt, from)?;
             let then = first_of(end - next, next, span.then);
-            let inner = self.inside(around, all_after(body, at))?;
-            self.add_stmt(edges, stmt, &inner, Span { from, then })?;
+            let inner = self.rest_at(&rests, around, body, at);
+            self.add_stmt(edges, stmt, inner, Span { from, then })?;
             from = next;
         }
         Ok(())

@@ -263,6 +263,11 @@ module _ (funcs : List Func) (deep : ℕ) where
   unfoldable pub inside_all : Around → List Stmt → Around
   inside_all w body = inside w (items_in body)
 
+  -- what is around each of these statements, the last first
+  unfoldable pub rests_all : Around → List Stmt → List Around
+  rests_all w [] = []
+  rests_all w (s ∷ ss) = rests_all w ss ++ inside_all w ss ∷ []
+
   module _ (nv nd : ℕ) where
     -- how many locations a statement takes, and all statements of a list
     unfoldable pub wide_stmt : Stmt → ℕ

@@ -17,7 +17,7 @@ use Rattle.c_lower.specs.declared.site.TwoSpans.{TwoSpans}
 use Rattle.c_links.specs.Chains.{chain}
 use Rattle.c_links.specs.declared.counts.Counts.{Counts}
 use Rattle.c_lower.specs.inner.Emitting.{first_of, in_loop, close_width, step_to, emit_test, reached, wide_all}
-use Rattle.c_lower.specs.inner.Emitting.{emit_stmt, emit_all, heads_stmt, heads_all, inside_stmt, inside_all}
+use Rattle.c_lower.specs.inner.Emitting.{emit_stmt, emit_all, heads_stmt, heads_all, inside_stmt, inside_all, rests_all}
 use Rattle.fore_base.specs.Stores.{set_each}
 use Rattle.c_types.specs.declared.program.Atom.{Atom}
 use Rattle.c_joints.specs.declared.sides.Joint.{Joint}
@@ -167,3 +167,7 @@ inside_one site w s = inside_stmt site.funcs.now site.calls w s
 
 abbrev pub inside_each : Site → Around → List Stmt → Around
 inside_each site w body = inside_all site.funcs.now site.calls w body
+
+-- what is around each of some statements, the last first
+abbrev pub rests_of : Site → Around → List Stmt → List Around
+rests_of site w body = rests_all site.funcs.now site.calls w body

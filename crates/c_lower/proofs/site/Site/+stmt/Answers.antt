@@ -15,9 +15,10 @@ add_all-loop-at-preserved t c =
     let h : at < length body = c.loop-at-test.true in
     let n : c.in_ok-next.next ≡ c.loop-at.from + wide_stmt site.funcs.now site.calls site.counts.ptrs site.counts.datums
     s = search rules in
-    let inner : c.in_ok-inner.inner ≡ inside_each site c.args.around.now (drop (at + 1) body) = search rules in
+    let inner : c.rest_at-inner.result.now ≡ inside_each site c.args.around.now (drop (at + 1) body) =
+    c.rest_at-inner.ensures in
     let now : c.add_stmt.new.edges ≡ c.loop-at.edges
-    ++ stmt_edges site s c.in_ok-inner.inner (span_of c.loop-at.from c.first_of-then.result) = search rules in
+    ++ stmt_edges site s c.rest_at-inner.result.now (span_of c.loop-at.from c.first_of-then.result) = search rules in
     record {
       left = room_left site body c.args.around.now at s c.loop-at.from c.in_ok-next.next c.in_ok-end.end h
           c.index-body-at.is c.loop-at.invariant.left n;
@@ -133,16 +134,16 @@ add_stmt-returns-in_ok-add_all-in-Some t c =
     let g = c.in-Some.called.now in let spans = c.in_ok-spans-in-Some.spans in
     let there : slice_get site.funcs.now c.in-Call.func ≡ Some g = search rules in
     let told : spans ≡ call_spans site g c.in-Call.args span = search rules in
-    let inner : c.in_ok-inner-in-Some.inner ≡ in_call w spans.second.from = search rules in
+    let inner : c.in_call-inner.result ≡ in_call w spans.second.from = search rules in
     let stmts : c.reached-stmts.result.now ≡ reached site.calls g.body = search rules in
     let first : c.add_enter.new.edges ≡ c.args.edges.now
     ++ enter_edges site g c.in-Call.args c.in-Call.line span.from spans.first.from = search rules in
     let second : c.add_all-in-Some.new.edges ≡ c.add_enter.new.edges
-    ++ all_edges c.deeper.result c.reached-stmts.result.now c.in_ok-inner-in-Some.inner spans.first = search rules in
+    ++ all_edges c.deeper.result c.reached-stmts.result.now c.in_call-inner.result spans.first = search rules in
     let third : OnOk c.add_exit.result
     (c.add_exit.new.edges ≡ c.add_all-in-Some.new.edges
     ++ exit_edges site g c.in-Call.to c.in-Call.line spans.second) = search rules in
     on_ok_weaker _
     (call_added site w span c.args.stmt.now c.args.edges.now c.add_enter.new.edges c.add_all-in-Some.new.edges
-    c.add_exit.new.edges c.in-Call.func c.in-Call.args c.in-Call.to c.in-Call.line g spans c.in_ok-inner-in-Some.inner
+    c.add_exit.new.edges c.in-Call.func c.in-Call.args c.in-Call.to c.in-Call.line g spans c.in_call-inner.result
     c.deeper.result c.reached-stmts.result.now c.in-Call.is there told inner c.deeper.ensures stmts first second) third
