@@ -1,10 +1,12 @@
 -- A worked part and its fold into an edge without an end; what forbids a part; a part whose ports are one root.
-use Rattle.std.proofs.Common.{◌≡◌, ◌<◌, inl, inr, ℕ, zero, suc, List, [], ◌∷◌, ◌++◌, refl, ap, subst, Some, None}
+use Rattle.std.proofs.Common.{◌≡◌, ◌<◌, inl, inr, ℕ, zero, suc, List, [], ◌∷◌, ◌++◌, refl, sym, ◌∙◌, ap, subst}
+use Rattle.std.proofs.Common.{Some, None}
 use Rattle.std.proofs.Common.{slice_get, arith}
 use Rattle.std.proofs.lemmas.Bool.{ne_eqb}
 use Rattle.std.proofs.lemmas.Option.{none-some, same_Some}
 use Rattle.fore_base.specs.Lists.{IsIn, IsDistinct, Every}
 use Rattle.fore_base.proofs.ListLemmas.{in_left, in_right}
+use Rattle.fore_base.specs.declared.store.Datum.{Datum}
 use Rattle.ta_core.specs.Auto.{Automaton}
 use Rattle.ta_core.specs.Language.{InLanguage}
 use Rattle.ta_core.specs.declared.symbol.Slot.{Slot}
@@ -15,6 +17,7 @@ use Rattle.ta_core.specs.declared.tree.Tree.{Tree, roll-Tree, out-roll-Tree}
 use Rattle.fa_core.specs.declared.boxes.BoxDef.{BoxDef}
 use Rattle.fa_core.specs.declared.faces.BoxFace.{BoxFace}
 use Rattle.fa_core.specs.declared.forest.Forest.{Forest}
+use Rattle.fa_core.specs.declared.forest.Target.{Target}
 use Rattle.fa_core.specs.declared.forest.Target.TheVariants.{Null as NullTarget, At}
 use Rattle.fa_core.specs.Canonical.{refs_at}
 use Rattle.fa_core.specs.Dressed.{Node, node, no_parts, field, hook, leaf, no_nodes}
@@ -337,6 +340,13 @@ reference_from_outside h = let e = left_of_other in h.alone 1 0 (inl refl) not_i
 -- the part has the box's face
 part_has_the_face : (F : Forest) (g : BoxDef) → IsPart bs F box 2 None g → g.face ≡ ring_face
 part_has_the_face F g h = h.face
+
+-- and no variables
+part_with_a_variable : (F : Forest) (g : BoxDef) (v : Target) → g.inside.vars ≡ v ∷ [] → IsPart bs F box 2 None g → ⊥
+part_with_a_variable F g v e h = cc (sym e ∙ h.no_vars)
+
+part_with_data : (F : Forest) (g : BoxDef) (x : Datum) → g.inside.data_vars ≡ x ∷ [] → IsPart bs F box 2 None g → ⊥
+part_with_data F g x e h = cc (sym e ∙ h.no_data)
 
 -- Both ports at one root. Each covers next, so there is no part: the field would be taken twice.
 

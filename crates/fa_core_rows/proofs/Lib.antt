@@ -3,6 +3,8 @@ pub mod HookFolds
 pub mod InnerRoots
 pub mod LeastFolds
 pub mod LinkFolds
+pub mod Regroupings
 pub mod Rings
 pub mod Singles
+pub mod Slots
 pub mod Walks

@@ -3,7 +3,7 @@ use Rattle.std.proofs.Common.{◌≡◌, ◌≢◌, inl, inr, ℕ, zero, suc, []
 use Rattle.std.proofs.Common.{slice_get, arith}
 use Rattle.std.proofs.lemmas.Option.{none-some, same_Some}
 use Rattle.fore_base.specs.Lists.{IsIn}
-use Rattle.ta_core.specs.declared.symbol.Slot.TheVariants.{Field, Link}
+use Rattle.ta_core.specs.declared.symbol.Slot.TheVariants.{Field, Link, Hook}
 use Rattle.ta_core.specs.declared.symbol.Symbol.{Symbol}
 use Rattle.ta_core.specs.declared.symbol.Symbol.TheVariants.{Ref, Cell}
 use Rattle.ta_core.specs.declared.tree.Tree.{Tree, out-Tree, out-roll-Tree}
@@ -146,6 +146,46 @@ not_untied h =
     let e = tied_fields in
     let w = below_ways in
     h 0 tied below (inl (inl refl)) refl (rw e (inl refl)) no_leaf (rw w (inl refl))
+
+-- a Hook before the field hides nothing: the cell is a knot, and is no root
+abbrev behind_hook : Tree
+behind_hook = cell (Hook 0 ∷ Field 1 ∷ []) (below ∷ [])
+
+behind_hook_fields : field_trees behind_hook ≡ below ∷ []
+behind_hook_fields =
+    let e = out-roll-Tree (record { symbol = Cell 0 [] (Hook 0 ∷ Field 1 ∷ []); children = below ∷ [] }) in rw e refl
+
+not_untied_behind_hook : IsUntied (At 0 ∷ []) (behind_hook ∷ []) → ⊥
+not_untied_behind_hook h =
+    let e = behind_hook_fields in
+    let w = below_ways in
+    h 0 behind_hook below (inl (inl refl)) refl (rw e (inl refl)) no_leaf (rw w (inl refl))
+
+-- cut into two roots
+abbrev above_behind_hook : Tree
+above_behind_hook = cell (Hook 0 ∷ Field 1 ∷ []) (ref 1 ∷ [])
+
+reference_behind_hook : field_trees above_behind_hook ≡ ref 1 ∷ []
+reference_behind_hook =
+    let e = out-roll-Tree (record { symbol = Cell 0 [] (Hook 0 ∷ Field 1 ∷ []); children = ref 1 ∷ [] }) in rw e refl
+
+one_reference_behind_hook : references (above_behind_hook ∷ below ∷ []) 1 ≡ 1
+one_reference_behind_hook = simp opened
+
+knot_behind_hook : IsKnot (At 0 ∷ []) (above_behind_hook ∷ below ∷ []) 1
+knot_behind_hook = record {
+  one = one_reference_behind_hook;
+  from = 0;
+  shared = inl (inl refl);
+  above = above_behind_hook;
+  is_above = refl;
+  leaf = ref 1;
+  in_field = (let e = reference_behind_hook in rw e (inl refl));
+  refers = ref_symbol 1;
+  own = below;
+  is_own = refl;
+  ties = (let e = below_ways in rw e (inl refl));
+}
 
 -- below a box edge it is none
 abbrev below_edge : Tree

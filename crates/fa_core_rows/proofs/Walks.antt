@@ -101,6 +101,25 @@ first_on = record {
         [ inl e ↦ omega (arith, e) | inr x ↦ absurd x ]
     only (suc (suc (suc j))) f o p = absurd (none-some p.0 p.1)
 
+-- Two placed roots with an open way each: the walk goes on from the lower.
+
+abbrev to_second : Tree
+to_second = cell (Link 0 ∷ []) (ref 1 ∷ [])
+
+abbrev two_lists : List Tree
+two_lists = start ∷ start ∷ by_box 0 ∷ to_second ∷ []
+
+open_from_first : IsOpen pair two_lists 2 0 2
+open_from_first = (
+  2,
+  omega arith,
+  omega arith,
+  (by_box 0, refl, (back_way 0, (let e = box_ways 0 in rw e (inl refl)), refl, inl (refl, refl))),
+)
+
+from_the_lower : (h : GoesOn pair two_lists 2) → h.from ≡ 0
+from_the_lower h = let l = h.lowest 0 2 open_from_first in omega (arith, l)
+
 -- then the other: the first is not open any more
 second_on : GoesOn pair two 2
 second_on = record {

@@ -2,4 +2,5 @@ pub mod Cases
 pub mod Edges
 pub mod Explicit
 pub mod Kept
+pub mod Loads
 pub mod Refined
