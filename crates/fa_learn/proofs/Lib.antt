@@ -6,6 +6,7 @@ mod Contained
 mod Copies
 mod LeadFields
 mod LearntNames
+mod OneCandidate
 mod PlacedCells
 mod PortGiven
 mod PortRules
