@@ -64,9 +64,12 @@ def explain(program, words, file, say=None):
     elif answer.status == 5 and answer.signal is None:
         unread(found, words)
     else:
-        found.verdict = 'failed'
+        found.verdict = 'ended' if answer.signal else FAILURES.get(answer.status, 'failed')
         found.message = failed_words(last)
     return found
+
+
+FAILURES = {6: 'unwritten', 7: 'no memory', 124: 'time over'}
 
 
 def failed_words(rung):
@@ -121,10 +124,8 @@ def refused(found, program, words, answer):
         word = word_at(found.source, refusal.line, refusal.column)
         found.message += f": '{word}'" if word else ' (the end of the file)' if is_end(found.source, refusal) else ''
         found.length = max(1, len(found.source.token_at(refusal.line, refusal.column)))
-    elif refusal.line:
-        found.column = found.source.first_column(refusal.line)
     if rule.sentence:
-        found.sentences.append(f'{refusal.rule} refuses: {rule.sentence}')
+        found.sentences.append(f'{refusal.rule}: {rule.sentence}')
     if rule.help:
         found.help.append(rule.help)
     if refusal.rule.startswith('P'):
@@ -161,7 +162,10 @@ def unsafe(found, told, climbed):
     found.message = report.fault_text
     found.program = read_program(found.source)
     if report.path is not None:
-        found.steps = paths.read_path(report.path)
+        try:
+            found.steps = paths.read_path(report.path)
+        except (ValueError, IndexError):
+            found.sentences.append('the path does not read')
         found.depths = paths.depths(found.steps, found.program)
         sentence, place = blame.told(found.steps, found.program, report.fault)
         found.bad = list(place) if place else None

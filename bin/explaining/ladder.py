@@ -7,7 +7,7 @@ from .program import TIMED_OUT
 from .reports import Unread, read_report
 
 NO_LADDER = {'--steps', '--learn', '--join'}
-UNDECIDED = 3
+UNKNOWN = 3
 
 
 @dataclass
@@ -55,20 +55,27 @@ class Ladder:
         self.begun, self.rungs, self.passed = time.monotonic(), [], []
 
     def climb(self):
-        """Goes up until something is decided; the last step that was made, and what the answer is taken from."""
+        """Goes up until something is decided; the last step that was made."""
         options = list(self.words.options)
         if '--path' in self.there and ('--path',) not in options:
             options.append(('--path',))
         plan = [] if self.words.once or NO_LADDER & self.words.named() else self.plan(options)
         self.step('the words as they are', options, 1 + len(plan))
-        while plan and self.rungs[0].answer.status == UNDECIDED and not self.is_decided():
+        had_plan = bool(plan)
+        while plan and self.rungs[0].answer.status in (UNKNOWN, TIMED_OUT) and not self.is_decided():
             name, make = plan.pop(0)
             why, more = make()
             if why:
                 self.passed.append(Passed(name, why))
             else:
                 self.step(name, more, 1 + len(plan))
+        if had_plan and self.rungs[0].answer.status == TIMED_OUT and not self.is_decided() and self.left() > 1:
+            self.step('the words as they are, in the time that is left', options, 1)
         return self.rungs[-1]
+
+    def left(self):
+        """The seconds that are left."""
+        return self.words.seconds - (time.monotonic() - self.begun) if self.words.seconds is not None else float('inf')
 
     def is_decided(self):
         return self.rungs[-1].answer.status in (0, 1)
@@ -97,7 +104,9 @@ class Ladder:
 
     def more_states(self, options):
         first = self.rungs[0].report
-        if first is None or first.verdict == 'UNKNOWN trace':
+        if first is None:
+            return 'fewer states took too long already', None
+        if first.verdict == 'UNKNOWN trace':
             return 'more states do not help where a trace was found', None
         grown = growth(first.exploration)
         if grown and grown.grows():
@@ -115,7 +124,7 @@ class Ladder:
     def step(self, name, options, left):
         seconds = None
         if self.words.seconds is not None:
-            seconds = max(0.01, (self.words.seconds - (time.monotonic() - self.begun)) / left)
+            seconds = max(0.01, self.left() / left)
         words = ['verify', *(word for entry in options for word in entry), '--', self.file]
         waiting = (lambda spent: self.say(len(self.rungs) + 1, name, spent)) if self.say else None
         answer = self.program.call(words, seconds, waiting)
@@ -141,11 +150,3 @@ def waiting_line(stream=sys.stderr):
         stream.write(f'\r\033[Kstep {number}: {name}, {spent:.0f} s')
         stream.flush()
     return say
-
-
-def status_of(ladder):
-    return ladder.rungs[-1].answer.status
-
-
-def timed_out(rung):
-    return rung.answer.status == TIMED_OUT

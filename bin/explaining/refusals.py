@@ -3,7 +3,7 @@ import os, tempfile
 from typing import NamedTuple
 
 from .reports import read_refusal
-from .tokens import Source
+from .tokens import Source, shown
 
 MOST = 20
 
@@ -17,7 +17,7 @@ class Place(NamedTuple):
 
 def word_at(source, line, column):
     """The word at a place as it is quoted, or what is there in place of one."""
-    word = source.token_at(line, column).decode('utf-8', 'replace')
+    word = shown(source.token_at(line, column))
     if not word.strip():
         return ''
     return word if len(word) <= 40 else word[:40] + '..'

@@ -140,8 +140,6 @@ def read_head(at, report):
 
 
 def read_exploration(at):
-    if at.peek() is None:
-        return None
     head = re.fullmatch(r'height (\d+) budget (\d+) nodes (\d+)((?: [a-z-]+)*)', at.next())
     if not head:
         raise Unread('the line of height, budget and nodes is missing')

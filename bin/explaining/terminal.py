@@ -78,9 +78,9 @@ def print_unknown(out, found, all_steps):
 
 
 def print_refused(out, found, all_steps):
-    message(out, found, 'error', found.message, found.line, found.column if found.rule and found.rule[0] in 'LPSTK' else None)
+    message(out, found, 'error', found.message, found.line, found.column)
     if found.line:
-        source_line(out, found, found.line, found.column, found.length)
+        source_line(out, found, found.line, found.column or found.source.first_column(found.line), found.length)
     print_more(out, found)
 
 
@@ -105,8 +105,9 @@ def print_ladder(out, found):
         out.put(f'  decided by step {len(rungs)}: {rungs[-1].name} ({rungs[-1].answer.seconds:.1f} s)')
     else:
         out.put(f'  no step decided it: {"; ".join(it.name for it in rungs)}')
-    for passed in found.ladder.passed:
-        out.put(f'  passed over: {passed.name}, since {passed.why}')
+    for why in dict.fromkeys(it.why for it in found.ladder.passed):
+        names = ', '.join(it.name for it in found.ladder.passed if it.why == why)
+        out.put(f'  passed over: {names}, since {why}')
 
 
 class Note:

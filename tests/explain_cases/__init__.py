@@ -1,0 +1,1 @@
+"""What tests/explain is made of: cases, a program that answers what a case wants, and a browser that is driven."""
