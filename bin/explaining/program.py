@@ -56,10 +56,12 @@ class Program:
             reader.start()
         try:
             timed_out = self.wait(run, begun, seconds, waiting)
-            for reader in readers:
-                reader.join(5)
         finally:
             end(run)
+            for reader in readers:
+                reader.join(5)
+            for stream in (run.stdout, run.stderr):
+                stream.close()
             with self.lock:
                 self.running.discard(run)
         out, notes = (b''.join(it).decode('utf-8', 'replace') for it in texts)
