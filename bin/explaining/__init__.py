@@ -1,1 +1,1 @@
-"""What bin/explain is made of: it reads what `forester verify` prints, and says it for people. Nothing of it is proved."""
+"""What bin/explain is made of: it says for people what `forester verify` prints. Nothing of it is proved."""

@@ -4,7 +4,7 @@ from .paths import Store, VALUES, value_words
 
 
 def told(steps, program, fault):
-    """A sentence on the fault in which the path ends, and the place of the bad value; None where path and text do not tell."""
+    """A sentence on the fault in which the path ends, and the place of the bad value; None where it is not told."""
     if not steps or steps[-1].end is None or program is None:
         return None, None
     store, last = Store(), steps[-1]
@@ -25,7 +25,7 @@ def told(steps, program, fault):
 
 
 def copies(store, step, program):
-    """Of the pointers that a step makes dangling without a free: the freed cells that they pointed to, as the text tells."""
+    """Of the pointers that a step makes dangling without a free: the freed cells to which they pointed."""
     places = [place for place in map(changed, step.changes) if place]
     if not places or any(it.kind == 'free' for it in step.changes):
         return {}
@@ -104,7 +104,9 @@ def stepped(store, act, program):
     if act.kind not in ('assign', 'free', 'return', 'end', 'call'):
         return None, []
     after, changed, words = store.copy(), [(it.kind, it.number) for it in act.dying], [it.text for it in act.tokens]
-    called = next((program.functions[one] for one, two in zip(words, words[1:]) if two == '(' and one in program.functions), None)
+    called = next(
+        (program.functions[one] for one, two in zip(words, words[1:]) if two == '(' and one in program.functions), None
+    )
     given, target = None, None
     if act.kind == 'assign':
         left, right = sides(act)
@@ -149,11 +151,19 @@ def put(store, place, value):
 
 def lost_words(store, lost, places):
     """The lost cells, the first of which a changed place led to where one did."""
-    held = [(place, store.value(place)[1]) for place in places if store.value(place)[0] == 'cell' and store.value(place)[1] in lost]
+    held = [
+        (place, store.value(place)[1])
+        for place in places
+        if store.value(place)[0] == 'cell' and store.value(place)[1] in lost
+    ]
     cell = held[0][1] if held else lost[0]
-    words = f'cell {cell} is lost' if len(lost) == 1 else \
-        f'{len(lost)} cells are lost, cell {cell} among them' if len(lost) > 6 else \
-        f'the cells {", ".join(map(str, lost[:-1]))} and {lost[-1]} are lost'
+    words = (
+        f'cell {cell} is lost'
+        if len(lost) == 1
+        else f'{len(lost)} cells are lost, cell {cell} among them'
+        if len(lost) > 6
+        else f'the cells {", ".join(map(str, lost[:-1]))} and {lost[-1]} are lost'
+    )
     if cell in store.made:
         words += f': {"it" if len(lost) == 1 else f"cell {cell}"} was made {at(store.made[cell])}'
     if held:

@@ -6,6 +6,7 @@ from .paths import UNSET
 
 class Bad(NamedTuple):
     """A value at which a fault is met: the text that stands for it, its place, and the value."""
+
     text: str
     place: tuple
     value: tuple
@@ -48,9 +49,9 @@ def operands(tokens):
                 at += 1
                 if depth == 0 and words[at - 1] == ')':
                     break
-        elif tokens[at].kind == 'word' and words[at + 1:at + 2] != ['(']:
+        elif tokens[at].kind == 'word' and words[at + 1 : at + 2] != ['(']:
             end = at + 1
-            while words[end:end + 1] == ['->']:
+            while words[end : end + 1] == ['->']:
                 end += 2
             found.append(words[at:end])
             at = end
@@ -63,7 +64,7 @@ def sides(act):
     """The tokens of an assignment's target, and those of its right side."""
     words = [it.text for it in act.tokens]
     at = words.index('=')
-    return act.tokens[:at], act.tokens[at + 1:]
+    return act.tokens[:at], act.tokens[at + 1 :]
 
 
 def in_order(act):
@@ -167,7 +168,7 @@ class Condition:
             return None
         while self.text() == '->':
             self.at += 2
-        words = self.words[begun:self.at]
+        words = self.words[begun : self.at]
         if words[0] in LITERALS or words[0].isdecimal():
             return LITERALS.get(words[0]) or ('number', int(words[0]))
         values = along(self.store, self.act, words)

@@ -17,13 +17,13 @@ ORDER = [7, 6, 5, 4, 2, 1, 124, 3, 0]
 class Explained:
     file: str
     status: int
-    verdict: str                        # SAFE, UNSAFE, UNKNOWN, refused, or what went wrong
+    verdict: str  # SAFE, UNSAFE, UNKNOWN, refused, or what went wrong
     message: str = ''
     source: Optional[Source] = None
     line: Optional[int] = None
     column: Optional[int] = None
     length: int = 1
-    rule: Optional[str] = None          # of a refusal
+    rule: Optional[str] = None  # of a refusal
     sentences: list = field(default_factory=list)
     help: list = field(default_factory=list)
     places: list = field(default_factory=list)
@@ -33,8 +33,7 @@ class Explained:
     depths: list = field(default_factory=list)
     ladder: object = None
     growth: object = None
-    bad: Optional[list] = None          # the place of the bad value
-
+    bad: Optional[list] = None  # the place of the bad value
 
     def rung(self):
         return self.ladder.rungs[-1] if self.ladder else None
@@ -58,8 +57,11 @@ def explain(program, words, file, say=None):
     elif answer.status == 2 and answer.signal is None:
         found.verdict = 'usage'
         unknown = sorted(words.named() - climbed.there)
-        found.message = 'the program does not have the option ' + ', '.join(unknown) if unknown else \
-            "the program does not read these words: an option's value is not one that it takes (docs/REPORTS.md)"
+        found.message = (
+            'the program does not have the option ' + ', '.join(unknown)
+            if unknown
+            else "the program does not read these words: an option's value is not one that it takes (docs/REPORTS.md)"
+        )
         found.help = answer.notes.strip().splitlines()
     elif answer.status == 5 and answer.signal is None:
         unread(found, words)
@@ -105,8 +107,9 @@ def unread(found, words):
         if said:
             found.message = f'{path} was not read: {said}'
             return
-    found.message = 'a file was not read, though it can be read now: ' + \
-        ' or '.join(it for it in (found.file, words.value('--boxes')) if it)
+    found.message = 'a file was not read, though it can be read now: ' + ' or '.join(
+        it for it in (found.file, words.value('--boxes')) if it
+    )
 
 
 def refused(found, program, words, answer):
@@ -136,7 +139,7 @@ def refused(found, program, words, answer):
 
 
 def is_end(source, refusal):
-    return refusal.line > len(source.lines) or not source.lines[refusal.line - 1][refusal.column - 1:].strip()
+    return refusal.line > len(source.lines) or not source.lines[refusal.line - 1][refusal.column - 1 :].strip()
 
 
 def safe(found, told, climbed):
@@ -151,8 +154,10 @@ def safe(found, told, climbed):
 def box_sentences(report):
     if not report.states:
         return []
-    return [f'box {name} was folded {times} time{"s" * (times != 1)}' if times else f'box {name} was never folded'
-            for name, times in report.folds().items()]
+    return [
+        f'box {name} was folded {times} time{"s" * (times != 1)}' if times else f'box {name} was never folded'
+        for name, times in report.folds().items()
+    ]
 
 
 def unsafe(found, told, climbed):
@@ -184,29 +189,45 @@ def unknown(found, told, climbed):
     found.growth = grown = ladders.growth(report.exploration)
     kept = report.exploration.count if report.exploration else 0
     if report.verdict == 'UNKNOWN budget':
-        found.message = f'neither a fault nor safety was found: {kept} abstract states are kept, as many as may be, and more are wanted'
+        found.message = (
+            f'neither a fault nor safety was found: {kept} abstract '
+            'states are kept, as many as may be, and more are wanted'
+        )
         if grown:
-            found.sentences.append(f'roots at loop heads: {grown.first:.1f} on average in the first quarter of the states there, '
-                                   f'{grown.last:.1f} in the last: they {"grow" if grown.grows() else "do not grow"}')
+            found.sentences.append(
+                f'roots at loop heads: {grown.first:.1f} on average in the first quarter of the states there, '
+                f'{grown.last:.1f} in the last: they {"grow" if grown.grows() else "do not grow"}'
+            )
             found.help.append(grow_help(there) if grown.grows() else 'more states: --steps 20000')
         else:
             found.help.append('more states: --steps 20000')
     else:
         found.line, found.column = report.line, found.source.first_column(report.line)
-        found.message = f'an abstract trace leads to {report.fault_text} here, but the run on its choices meets no fault'
-        found.sentences.append('states were joined at a loop head, and what that added leads to the fault'
-                               + (f'; the trace leaves what the program does at its state {report.leaves}'
-                                  if (report.leaves or '-').isdecimal() else ''))
-        found.help.append('join less: ' + ('--max-height 4' if '--max-height' in there else '--height 2, up to --height 4')
-                          + ('; and without --boxes, which may fold what should stay apart' if '--boxes' in named else ''))
+        found.message = (
+            f'an abstract trace leads to {report.fault_text} here, but the run on its choices meets no fault'
+        )
+        found.sentences.append(
+            'states were joined at a loop head, and what that added leads to the fault'
+            + (
+                f'; the trace leaves what the program does at its state {report.leaves}'
+                if (report.leaves or '-').isdecimal()
+                else ''
+            )
+        )
+        found.help.append(
+            'join less: '
+            + ('--max-height 4' if '--max-height' in there else '--height 2, up to --height 4')
+            + ('; and without --boxes, which may fold what should stay apart' if '--boxes' in named else '')
+        )
     if report.exploration and report.exploration.boxes:
         found.sentences.extend(box_sentences(report.exploration))
 
 
 def grow_help(there):
     ways = [it for it, option in (('--learn 4', '--learn'), ('--join 2000', '--join')) if option in there]
-    return 'a box is wanted, which stands for what the loop adds each time (docs/USING.md)' + \
-        (', or ' + ' or '.join(ways) if ways else '')
+    return 'a box is wanted, which stands for what the loop adds each time (docs/USING.md)' + (
+        ', or ' + ' or '.join(ways) if ways else ''
+    )
 
 
 VERDICTS = {'SAFE': safe, 'UNSAFE': unsafe, 'UNKNOWN': unknown}

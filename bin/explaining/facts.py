@@ -36,14 +36,31 @@ def is_escaped(text):
 
 def facts(found):
     report, ladder = found.report, found.ladder
-    told = {'file': found.file, 'status': found.status, 'verdict': found.verdict, 'message': found.message,
-            'line': found.line, 'column': found.column, 'rule': found.rule, 'sentences': found.sentences, 'help': found.help}
+    told = {
+        'file': found.file,
+        'status': found.status,
+        'verdict': found.verdict,
+        'message': found.message,
+        'line': found.line,
+        'column': found.column,
+        'rule': found.rule,
+        'sentences': found.sentences,
+        'help': found.help,
+    }
     if found.places:
         told['places'] = [it._asdict() for it in found.places]
     if ladder:
-        told['ladder'] = [{'name': it.name, 'words': it.answer.words, 'status': it.answer.status, 'signal': it.answer.signal,
-                           'seconds': round(it.answer.seconds, 3), 'verdict': it.report.verdict if it.report else None}
-                          for it in ladder.rungs]
+        told['ladder'] = [
+            {
+                'name': it.name,
+                'words': it.answer.words,
+                'status': it.answer.status,
+                'signal': it.answer.signal,
+                'seconds': round(it.answer.seconds, 3),
+                'verdict': it.report.verdict if it.report else None,
+            }
+            for it in ladder.rungs
+        ]
         told['passed over'] = [{'name': it.name, 'why': it.why} for it in ladder.passed]
     if report:
         told['report'] = report_facts(report, found)
@@ -53,19 +70,39 @@ def facts(found):
 def report_facts(report, found):
     told = {'verdict': report.verdict}
     if report.fault:
-        told.update(fault={'number': report.fault, 'text': report.fault_text}, line=report.line, step=report.step,
-                    choices=[int(it) for it in report.choices])
+        told.update(
+            fault={'number': report.fault, 'text': report.fault_text},
+            line=report.line,
+            step=report.step,
+            choices=[int(it) for it in report.choices],
+        )
     if report.trace:
         told['trace'] = report.trace
     if found.steps:
-        told['path'] = [{'step': it.number, 'line': it.line, 'choice': None if it.choice is None else int(it.choice),
-                         'calls': depth, 'changes': [change_words(change) for change in it.changes], 'end': it.end}
-                        for it, depth in zip(found.steps, found.depths)]
+        told['path'] = [
+            {
+                'step': it.number,
+                'line': it.line,
+                'choice': None if it.choice is None else int(it.choice),
+                'calls': depth,
+                'changes': [change_words(change) for change in it.changes],
+                'end': it.end,
+            }
+            for it, depth in zip(found.steps, found.depths)
+        ]
     exploration = report.exploration
     if exploration:
-        told.update(height=exploration.height, budget=exploration.budget, states=exploration.count, flags=exploration.flags,
-                    boxes=exploration.folds() if exploration.states else dict.fromkeys(exploration.box_names()))
+        told.update(
+            height=exploration.height,
+            budget=exploration.budget,
+            states=exploration.count,
+            flags=exploration.flags,
+            boxes=exploration.folds() if exploration.states else dict.fromkeys(exploration.box_names()),
+        )
     if found.growth:
-        told['roots at loop heads'] = {'first quarter': found.growth.first, 'last quarter': found.growth.last,
-                                       'grow': found.growth.grows()}
+        told['roots at loop heads'] = {
+            'first quarter': found.growth.first,
+            'last quarter': found.growth.last,
+            'grow': found.growth.grows(),
+        }
     return told

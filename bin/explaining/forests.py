@@ -7,28 +7,29 @@ from typing import NamedTuple, Optional
 class Slot(NamedTuple):
     name: str
     is_box: bool
-    child: Optional[str]       # the state at its end; none for a box without an output
+    child: Optional[str]  # the state at its end; none for a box without an output
 
 
 class Rule(NamedTuple):
     """What stands right of `=`: a leaf (null, uninit, dangling, `ref 1`), or a cell."""
+
     leaf: Optional[str]
     struct: str = ''
-    data: tuple = ()           # (name, value)
+    data: tuple = ()  # (name, value)
     slots: tuple = ()
 
 
 @dataclass
 class Component:
     roots: list
-    rules: dict = field(default_factory=dict)      # a state to its rules, in order
+    rules: dict = field(default_factory=dict)  # a state to its rules, in order
 
 
 @dataclass
 class Forest:
     variables: list = field(default_factory=list)  # (kind, number, name, value)
     components: list = field(default_factory=list)
-    name: str = ''                                 # of a box
+    name: str = ''  # of a box
 
 
 CELL = re.compile(r'(\w+)\s*(?:\[([^\]]*)\])?\s*\(([^)]*)\)')

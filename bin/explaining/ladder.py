@@ -1,4 +1,4 @@
-"""The ladder: which words are tried one after the other while the answer is UNKNOWN, and what the printed states say of more of them."""
+"""The ladder: which words are tried one after the other while the answer is UNKNOWN, and which are hopeless."""
 import sys, time
 from dataclasses import dataclass
 from typing import Optional
@@ -13,6 +13,7 @@ UNKNOWN = 3
 @dataclass
 class Rung:
     """A step of the ladder that was made: its words in short, its answer, and the report where one was printed."""
+
     name: str
     words: list
     answer: object
@@ -23,6 +24,7 @@ class Rung:
 @dataclass
 class Passed:
     """A step of the ladder that was passed over, and why."""
+
     name: str
     why: str
 
@@ -30,6 +32,7 @@ class Passed:
 @dataclass
 class Growth:
     """How many roots the states at loop heads have, on average, in the first and in the last quarter of them."""
+
     first: float
     last: float
 
@@ -81,7 +84,8 @@ class Ladder:
         return self.rungs[-1].answer.status in (0, 1)
 
     def plan(self, options):
-        """The further steps, by what the program has: each a name, and a function that gives why it is hopeless, or its words."""
+        """The further steps, by what the program has: a name, and what says why it is hopeless, or its words."""
+
         def plain(*more):
             return lambda: (None, [*options, *more])
 
@@ -149,4 +153,5 @@ def waiting_line(stream=sys.stderr):
     def say(number, name, spent):
         stream.write(f'\r\033[Kstep {number}: {name}, {spent:.0f} s')
         stream.flush()
+
     return say

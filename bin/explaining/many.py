@@ -43,7 +43,7 @@ def print_line(out, found):
         text += f' ({found.sentences[0]})'
     if found.ladder and len(found.ladder.rungs) > 1:
         text += f' [step {len(found.ladder.rungs)}: {found.ladder.rungs[-1].name}]'
-    message(out, found, KINDS.get(found.verdict, 'error'), text[:4 * LONGEST], found.line)
+    message(out, found, KINDS.get(found.verdict, 'error'), text[: 4 * LONGEST], found.line)
     out.stream.flush()
 
 

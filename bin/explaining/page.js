@@ -38,13 +38,15 @@ function drawSource(clicked) {
       const line = begun + at + 1;
       const row = made('div', {class: 'row', id: 'L' + line}), code = made('code', {});
       if (clicked && clicked.lines.has(line)) {
-        row.append(made('button', {onclick: () => clicked.call(line), 'aria-label': `line ${line}, ${clicked.says(line)}`}, line));
+        const says = `line ${line}, ${clicked.says(line)}`;
+        row.append(made('button', {onclick: () => clicked.call(line), 'aria-label': says}, line));
       } else {
         row.append(made('span', {}, line));
       }
       if (line === facts.line && facts.caret) {
         const [from, length] = facts.caret;
-        code.append(text.slice(0, from), made('mark', {}, text.slice(from, from + length) || ' '), text.slice(from + length));
+        code.append(text.slice(0, from), made('mark', {}, text.slice(from, from + length) || ' '),
+          text.slice(from + length));
       } else {
         code.append(text);
       }

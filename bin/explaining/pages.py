@@ -26,9 +26,15 @@ def write(out, found, status):
 
 def page(found):
     facts = json.dumps(facts_of(found), ensure_ascii=False, separators=(',', ':'))
-    return fill('page.html', {'TITLE': html.escape(f'{shown(found.file)}: {found.verdict}'), 'STYLE': (HERE / 'page.css').read_text(),
-                              'SCRIPT': '\n'.join((HERE / it).read_text() for it in ('page.js', 'heap.js', 'states.js')),
-                              'FACTS': facts.replace('<', '\\u003c').replace('\u2028', '\\u2028')})
+    return fill(
+        'page.html',
+        {
+            'TITLE': html.escape(f'{shown(found.file)}: {found.verdict}'),
+            'STYLE': (HERE / 'page.css').read_text(),
+            'SCRIPT': '\n'.join((HERE / it).read_text() for it in ('page.js', 'heap.js', 'states.js')),
+            'FACTS': facts.replace('<', '\\u003c').replace('\u2028', '\\u2028'),
+        },
+    )
 
 
 def fill(name, parts):
@@ -38,22 +44,35 @@ def fill(name, parts):
 
 
 def index(rows):
-    listed = ''.join(f'<tr class="{html.escape(it.verdict)}"><td><a href="{html.escape(name)}">{html.escape(shown(it.file))}</a></td>'
-                     f'<td>{html.escape(it.verdict)}</td><td>{it.line or ""}</td><td>{html.escape(it.message)}</td></tr>'
-                     for name, it in rows)
+    listed = ''.join(
+        f'<tr class="{html.escape(it.verdict)}"><td><a '
+        f'href="{html.escape(name)}">{html.escape(shown(it.file))}</a></td>'
+        f'<td>{html.escape(it.verdict)}</td><td>{it.line or ""}</td><td>{html.escape(it.message)}</td></tr>'
+        for name, it in rows
+    )
     return fill('index.html', {'STYLE': (HERE / 'page.css').read_text(), 'ROWS': listed})
 
 
 def facts_of(found):
     """What the page's script reads."""
     lines = [found.source.line(at + 1) for at in range(len(found.source.lines))] if found.source else []
-    told = {'file': shown(found.file), 'verdict': found.verdict, 'message': found.message, 'sentences': found.sentences,
-            'help': found.help, 'line': found.line, 'column': found.column, 'source': lines}
+    told = {
+        'file': shown(found.file),
+        'verdict': found.verdict,
+        'message': found.message,
+        'sentences': found.sentences,
+        'help': found.help,
+        'line': found.line,
+        'column': found.column,
+        'source': lines,
+    }
     if found.verdict == 'refused' and found.column and found.source and found.line:
         told['caret'] = [found.source.character(found.line, found.column) - 1, found.length]
     if found.ladder and len(found.ladder.rungs) > 1:
-        told['ladder'] = [f'{it.name}: {it.report.verdict if it.report else f"status {it.answer.status}"}, {it.answer.seconds:.1f} s'
-                          for it in found.ladder.rungs] + [f'{it.name}: passed over, since {it.why}' for it in found.ladder.passed]
+        told['ladder'] = [
+            f'{it.name}: {it.report.verdict if it.report else f"status {it.answer.status}"}, {it.answer.seconds:.1f} s'
+            for it in found.ladder.rungs
+        ] + [f'{it.name}: passed over, since {it.why}' for it in found.ladder.passed]
     if found.steps:
         told.update(steps=[step_facts(it, depth) for it, depth in zip(found.steps, found.depths)], bad=found.bad)
         told['structs'] = found.program.structs if found.program else {}
@@ -64,8 +83,13 @@ def facts_of(found):
 
 
 def step_facts(step, depth):
-    told = {'n': step.number, 'l': step.line, 'd': depth, 'x': [list(it) for it in step.changes],
-            't': '; '.join(change_words(it) for it in step.changes)}
+    told = {
+        'n': step.number,
+        'l': step.line,
+        'd': depth,
+        'x': [list(it) for it in step.changes],
+        't': '; '.join(change_words(it) for it in step.changes),
+    }
     if step.choice is not None:
         told['c'] = step.choice
     if step.end:
@@ -86,20 +110,39 @@ def states_of(exploration):
             texts.append(lines)
     pictures, size = [], 0
     while len(pictures) < min(len(texts), MOST_PICTURES) and size < PICTURE_BYTES:
-        pictures += draw(texts[len(pictures):len(pictures) + AT_ONCE])
+        pictures += draw(texts[len(pictures) : len(pictures) + AT_ONCE])
         size = sum(map(len, pictures))
     others, size = [], 0
-    for lines in texts[len(pictures):]:
+    for lines in texts[len(pictures) :]:
         size += sum(map(len, lines))
         if size > TEXT_BYTES:
             break
         others.append('\n'.join(lines))
     starts = line_of_locations(exploration)
-    table = [[it.number, it.location, it.parent, it.line, it.choice, int(it.is_head()), [' '.join(fold) for fold in it.folds],
-              places['\n'.join(it.forest)]] for it in exploration.states[:MOST_STATES]]
-    return {'table': table, 'count': exploration.count, 'starts': starts, 'pictures': pictures, 'texts': others,
-            'boxes': [[name, places['\n'.join(lines)], exploration.folds()[name]]
-                      for name, lines in zip(exploration.box_names(), exploration.boxes)]}
+    table = [
+        [
+            it.number,
+            it.location,
+            it.parent,
+            it.line,
+            it.choice,
+            int(it.is_head()),
+            [' '.join(fold) for fold in it.folds],
+            places['\n'.join(it.forest)],
+        ]
+        for it in exploration.states[:MOST_STATES]
+    ]
+    return {
+        'table': table,
+        'count': exploration.count,
+        'starts': starts,
+        'pictures': pictures,
+        'texts': others,
+        'boxes': [
+            [name, places['\n'.join(lines)], exploration.folds()[name]]
+            for name, lines in zip(exploration.box_names(), exploration.boxes)
+        ],
+    }
 
 
 MOST_STATES = 20_000

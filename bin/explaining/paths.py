@@ -8,10 +8,11 @@ UNSET = ('uninit',)
 
 class Change(NamedTuple):
     """One change of a step: `var`, `data`, `new`, `cell` or `free`."""
+
     kind: str
     number: int
     name: str = ''
-    value: tuple = ()      # ('null',), ('uninit',), ('dangling',), ('cell', 3), ('number', 7), ('undef',)
+    value: tuple = ()  # ('null',), ('uninit',), ('dangling',), ('cell', 3), ('number', 7), ('undef',)
 
 
 @dataclass
@@ -20,19 +21,22 @@ class Step:
     line: int
     choice: Optional[str] = None
     changes: list = field(default_factory=list)
-    end: Optional[str] = None      # what the last line says in place of changes: a fault, starved, bad choice
+    end: Optional[str] = None  # what the last line says in place of changes: a fault, starved, bad choice
 
 
 @dataclass
 class Store:
     """The values after a step. What was never set has no entry."""
-    variables: dict = field(default_factory=dict)      # (kind, number) to value
+
+    variables: dict = field(default_factory=dict)  # (kind, number) to value
     names: dict = field(default_factory=dict)
-    cells: dict = field(default_factory=dict)          # number to (struct, {field: value})
-    since: dict = field(default_factory=dict)          # a place to the step that set it
-    made: dict = field(default_factory=dict)           # a cell to the step that made it
+    cells: dict = field(default_factory=dict)  # number to (struct, {field: value})
+    since: dict = field(default_factory=dict)  # a place to the step that set it
+    made: dict = field(default_factory=dict)  # a cell to the step that made it
     freed: dict = field(default_factory=dict)
-    origin: dict = field(default_factory=dict)         # a place that dangles to the cell that it pointed to, where that is known
+    origin: dict = field(
+        default_factory=dict
+    )  # a place that dangles to the cell that it pointed to, where that is known
 
     def value(self, place):
         """The value at a place: ('var', 3), ('data', 2) or ('cell', 1, 'next')."""
@@ -47,7 +51,11 @@ class Store:
         else:
             self.variables[place] = value
         self.since[place] = step
-        if value == ('dangling',) and before[0] == 'cell' and before[1] in (it.number for it in step.changes if it.kind == 'free'):
+        if (
+            value == ('dangling',)
+            and before[0] == 'cell'
+            and before[1] in (it.number for it in step.changes if it.kind == 'free')
+        ):
             self.origin[place] = before[1]
         elif value != ('dangling',):
             self.origin.pop(place, None)
@@ -91,7 +99,7 @@ def read_step(words):
     if len(words) < 4 or words[0] != 'step' or words[2] != 'line':
         raise ValueError('a line of the path does not read')
     step, at = Step(int(words[1]), int(words[3])), 4
-    if words[at:at + 1] == ['choice']:
+    if words[at : at + 1] == ['choice']:
         step.choice, at = words[at + 1], at + 2
     while at < len(words):
         kind = words[at]
@@ -129,7 +137,13 @@ VALUES = {'null': 'null', 'uninit': 'uninitialised', 'dangling': 'dangling', 'un
 
 
 def value_words(value):
-    return f'cell {value[1]}' if value[0] == 'cell' else str(value[1]) if value[0] == 'number' else VALUES.get(value[0], value[0])
+    return (
+        f'cell {value[1]}'
+        if value[0] == 'cell'
+        else str(value[1])
+        if value[0] == 'number'
+        else VALUES.get(value[0], value[0])
+    )
 
 
 def change_words(change):
@@ -155,7 +169,7 @@ def depths(steps, program):
     for step in steps:
         name = of_line.get(step.line)
         if name in stack:
-            del stack[stack.index(name) + 1:]
+            del stack[stack.index(name) + 1 :]
         elif name:
             stack.append(name)
         found.append(max(0, len(stack) - 1))

@@ -10,7 +10,8 @@ class Missing(Exception):
     """The program that draws is not here, or does not draw."""
 
 
-LOOK = '''graph [rankdir=LR,ranksep=0.35,nodesep=0.15,bgcolor="transparent",fontname="Helvetica",fontsize=10,style=rounded];
+LOOK = '''graph [rankdir=LR,ranksep=0.35,nodesep=0.15,bgcolor="transparent",style=rounded];
+graph [fontname="Helvetica",fontsize=10];
 node [shape=plain,fontname="Helvetica",fontsize=10]; edge [arrowsize=0.6,fontname="Helvetica",fontsize=9];'''
 LEAVES = {'null': 'null', 'uninit': 'uninit ?', 'dangling': 'dangling \u2717'}
 
@@ -32,11 +33,15 @@ class Drawing:
 
     def variable(self, node, name, value):
         if value.startswith('ref '):
-            self.lines.append(f'{node} [shape=box,style=rounded,margin="0.06,0.02",height=0.2,width=0.2,label="{name}"];')
+            self.lines.append(
+                f'{node} [shape=box,style=rounded,margin="0.06,0.02",height=0.2,width=0.2,label="{name}"];'
+            )
             self.lines.append(f'{node} -> {self.top(int(value[4:]))};')
         else:
             text = LEAVES.get(value, value)
-            self.lines.append(f'{node} [shape=box,style=rounded,margin="0.06,0.02",height=0.2,width=0.2,label="{name}: {text}"];')
+            self.lines.append(
+                f'{node} [shape=box,style=rounded,margin="0.06,0.02",height=0.2,width=0.2,label="{name}: {text}"];'
+            )
 
     def top(self, number):
         """The node at the top of a component, as the end of an arrow."""
@@ -57,8 +62,11 @@ class Drawing:
         self.lines.append(f'subgraph cluster{number} {{ label="{titles.get(number, f"root {number}")}"; labeljust=l;')
         if len(component.roots) > 1:
             self.lines.append(f't{number} [shape=circle,label="or",margin=0.02];')
-        after = [f't{number} -> {self.entry(number, component, it)} [style=dashed];' for it in component.roots] \
-            if len(component.roots) > 1 else []
+        after = (
+            [f't{number} -> {self.entry(number, component, it)} [style=dashed];' for it in component.roots]
+            if len(component.roots) > 1
+            else []
+        )
         shown = self.shown_states(component)
         for state, rules in component.rules.items():
             if state in shown:
@@ -68,7 +76,11 @@ class Drawing:
 
     def shown_states(self, component):
         """The states that stand as nodes: those with cells or alternatives. A leaf alone is written into its slot."""
-        return {state for state, rules in component.rules.items() if self.leaf_of(component, state) is None or state in component.roots}
+        return {
+            state
+            for state, rules in component.rules.items()
+            if self.leaf_of(component, state) is None or state in component.roots
+        }
 
     def leaf_of(self, component, state):
         rules = component.rules.get(state, [])
@@ -87,7 +99,9 @@ class Drawing:
                 arrows.append(f'a{number}_{state} -> {self.top(int(rule.leaf[4:]))} [style=dashed];')
                 continue
             else:
-                self.lines.append(f'{node} [shape=plaintext,margin=0.02,height=0.2,width=0.2,label="{LEAVES.get(rule.leaf, rule.leaf)}"];')
+                self.lines.append(
+                    f'{node} [shape=plaintext,margin=0.02,height=0.2,width=0.2,label="{LEAVES[rule.leaf]}"];'
+                )
             if several:
                 arrows.append(f'a{number}_{state} -> {node} [style=dashed];')
         return arrows
@@ -107,7 +121,12 @@ class Drawing:
             elif slot.child:
                 arrows.append(f'{node}:p{at}:e -> {self.entry(number, component, slot.child)} [{style}];')
             rows.append(f'<tr><td align="left" port="p{at}">{html.escape(text)}</td></tr>')
-        self.lines.append(f'{node} [label=<<table border="1" cellborder="1" cellspacing="0" cellpadding="2">{"".join(rows)}</table>>];')
+        self.lines.append(
+            (
+                f'{node} [label=<<table border="1" cellborder="1" '
+                f'cellspacing="0" cellpadding="2">{"".join(rows)}</table>>];'
+            )
+        )
         return arrows
 
 
@@ -131,9 +150,16 @@ def draw(texts):
 
 def small(picture):
     """A picture that takes the colour of the page around it, without what is not wanted there."""
-    for pattern, by in ((r'<!--.*?-->', ''), (r'<title>.*?</title>', ''), (r' xmlns(:xlink)?="[^"]*"', ''),
-                        (r' (id|class|font-family|text-anchor="start" xml:space)="[^"]*"', ''),
-                        (r'"black"', '"currentColor"'), (r' fill="(transparent|white)"', ' fill="none"'),
-                        (r' stroke="transparent"', ' stroke="none"'), (r'(\d+\.\d)\d+', r'\1'), (r'>\s+<', '><')):
+    for pattern, by in (
+        (r'<!--.*?-->', ''),
+        (r'<title>.*?</title>', ''),
+        (r' xmlns(:xlink)?="[^"]*"', ''),
+        (r' (id|class|font-family|text-anchor="start" xml:space)="[^"]*"', ''),
+        (r'"black"', '"currentColor"'),
+        (r' fill="(transparent|white)"', ' fill="none"'),
+        (r' stroke="transparent"', ' stroke="none"'),
+        (r'(\d+\.\d)\d+', r'\1'),
+        (r'>\s+<', '><'),
+    ):
         picture = re.sub(pattern, by, picture, flags=re.DOTALL)
     return re.sub(r'<text (?![^>]*fill=)', '<text fill="currentColor" ', picture).strip()

@@ -7,7 +7,8 @@ TIMED_OUT, NOT_STARTED = 124, 125
 
 
 class Answer(NamedTuple):
-    """What a call answered: its words, its status, its two texts, the signal that ended it if one did, and the seconds."""
+    """What a call answered: its words, status and texts, the signal that ended it if one did, and the seconds."""
+
     words: list
     status: int
     out: str
@@ -34,8 +35,10 @@ class Program:
         if self.usage is None:
             answer = self.call([])
             if answer.status != 2:
-                raise Unstarted(f'{self.command[0]} without words ended with status {answer.status}, and not with a usage text: '
-                                f'{answer.notes.strip()[:200]}')
+                raise Unstarted(
+                    f'{self.command[0]} without words ended with status {answer.status}, and not with a usage text: '
+                    f'{answer.notes.strip()[:200]}'
+                )
             self.usage = answer.notes
         line = re.search(rf'^.*\bforester {command} .*$', self.usage, re.MULTILINE)
         return re.findall(r'\[(--[a-z-]+)', line[0]) if line else []
@@ -44,14 +47,22 @@ class Program:
         """Runs it on words. What bin/forester says while it builds the program goes on to standard error."""
         begun = time.monotonic()
         try:
-            run = subprocess.Popen([*self.command, *words], stdin=subprocess.DEVNULL, stdout=subprocess.PIPE,
-                                   stderr=subprocess.PIPE, start_new_session=True)
+            run = subprocess.Popen(
+                [*self.command, *words],
+                stdin=subprocess.DEVNULL,
+                stdout=subprocess.PIPE,
+                stderr=subprocess.PIPE,
+                start_new_session=True,
+            )
         except OSError as failed:
             raise Unstarted(f'{self.command[0]}: {failed.strerror}') from failed
         with self.lock:
             self.running.add(run)
         texts = [[], []]
-        readers = [threading.Thread(target=read, args=it, daemon=True) for it in ((run.stdout, texts[0]), (run.stderr, texts[1]))]
+        readers = [
+            threading.Thread(target=read, args=it, daemon=True)
+            for it in ((run.stdout, texts[0]), (run.stderr, texts[1]))
+        ]
         for reader in readers:
             reader.start()
         try:
@@ -113,10 +124,12 @@ def end(run):
 
 def version():
     """The line of `rt version` and the commit."""
+
     def line(*command):
         try:
             got = subprocess.run(command, cwd=TOP, capture_output=True, text=True, errors='replace', timeout=60)
             return got.stdout.strip().splitlines()[0] if got.returncode == 0 and got.stdout.strip() else None
         except (OSError, subprocess.TimeoutExpired):
             return None
+
     return [line('rt', 'version') or 'rt: not here', 'commit ' + (line('git', 'rev-parse', 'HEAD') or 'not known')]

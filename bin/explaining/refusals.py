@@ -24,13 +24,13 @@ def word_at(source, line, column):
 
 
 def all_refused_words(program, source, refusal):
-    """The places of all words that no program may use, found by blanking each and asking again; whether that came to an end."""
+    """The places of all words that no program may use, by blanking each and asking again; whether these are all."""
     found, text = [], bytearray(source.bytes)
     with tempfile.TemporaryDirectory() as folder:
         path = os.path.join(folder, 'file.c')
         while refusal and refusal.rule.startswith('P') and not refusal.of_boxes:
             if len(found) > MOST:
-                return found[:MOST + 1], False
+                return found[: MOST + 1], False
             place = Place(refusal.rule, refusal.line, refusal.column, word_at(source, refusal.line, refusal.column))
             if found and place == found[-1]:
                 return found, False
@@ -45,13 +45,13 @@ def all_refused_words(program, source, refusal):
 
 def blank(text, source, place):
     """Puts blanks in the place of the word, or of the line where it begins with a `#`."""
-    begun = sum(len(it) + 1 for it in source.lines[:place.line - 1])
+    begun = sum(len(it) + 1 for it in source.lines[: place.line - 1])
     at = begun + place.column - 1
     if place.rule == 'P8':
         length = len(source.lines[place.line - 1]) - place.column + 1
     else:
         length = max(1, len(source.token_at(place.line, place.column)))
-    text[at:at + length] = b' ' * length
+    text[at : at + length] = b' ' * length
 
 
 def read_source(path, most=1_048_577):

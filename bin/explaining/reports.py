@@ -11,6 +11,7 @@ class Unread(Exception):
 @dataclass
 class State:
     """An abstract state: where it is, where it came from, and the lines of its forests."""
+
     number: int
     location: int
     parent: Optional[int] = None
@@ -35,8 +36,8 @@ class Exploration:
     budget: int
     count: int
     flags: list
-    boxes: list = field(default_factory=list)      # the lines of each
-    states: list = field(default_factory=list)     # none where the report is brief
+    boxes: list = field(default_factory=list)  # the lines of each
+    states: list = field(default_factory=list)  # none where the report is brief
 
     def box_names(self):
         return [lines[0].split()[1] for lines in self.boxes]
@@ -52,7 +53,7 @@ class Exploration:
 
 @dataclass
 class Report:
-    verdict: str                                   # SAFE, UNSAFE, UNKNOWN budget or UNKNOWN trace
+    verdict: str  # SAFE, UNSAFE, UNKNOWN budget or UNKNOWN trace
     fault: Optional[int] = None
     fault_text: str = ''
     line: Optional[int] = None
@@ -63,7 +64,7 @@ class Report:
     last: list = field(default_factory=list)
     store: list = field(default_factory=list)
     exploration: Optional[Exploration] = None
-    path: Optional[list] = None                    # the lines between `path` and `end`
+    path: Optional[list] = None  # the lines between `path` and `end`
 
 
 def read_report(text):
@@ -111,7 +112,7 @@ class Lines:
             end = self.lines.index(last, self.at)
         except ValueError:
             raise Unread(f'a line {last!r} is missing') from None
-        taken, self.at = self.lines[self.at:end], end + 1
+        taken, self.at = self.lines[self.at : end], end + 1
         return taken
 
     def until_end(self):

@@ -8,8 +8,11 @@ from .terminal import notes
 
 SCHEMA = 'https://docs.oasis-open.org/sarif/sarif/v2.1.0/errata01/os/schemas/sarif-schema-2.1.0.json'
 KINDS = {'SAFE': 'pass', 'UNSAFE': 'fail', 'UNKNOWN': 'open'}
-OTHERS = {'safe': 'No run of the program meets a fault', 'unknown': 'Neither a fault nor safety was found',
-          'not-verified': 'The file was not verified'}
+OTHERS = {
+    'safe': 'No run of the program meets a fault',
+    'unknown': 'Neither a fault nor safety was found',
+    'not-verified': 'The file was not verified',
+}
 
 
 def write(out, found, status):
@@ -25,19 +28,34 @@ def log(found, status):
     problems = [it for it in found if it.verdict not in KINDS and it.verdict != 'refused']
     if problems:
         invocation['toolExecutionNotifications'] = [
-            {'level': 'error', 'message': {'text': it.message or it.verdict}, 'locations': [location(it, None, None)]} for it in problems]
-    run = {'tool': {'driver': driver}, 'columnKind': 'unicodeCodePoints', 'invocations': [invocation],
-           'artifacts': [{'location': {'uri': uri(it.file)}, 'sourceLanguage': 'c'} for it in found],
-           'results': [result(it, places) for it in found]}
+            {'level': 'error', 'message': {'text': it.message or it.verdict}, 'locations': [location(it, None, None)]}
+            for it in problems
+        ]
+    run = {
+        'tool': {'driver': driver},
+        'columnKind': 'unicodeCodePoints',
+        'invocations': [invocation],
+        'artifacts': [{'location': {'uri': uri(it.file)}, 'sourceLanguage': 'c'} for it in found],
+        'results': [result(it, places) for it in found],
+    }
     return {'$schema': SCHEMA, 'version': '2.1.0', 'runs': [run]}
 
 
 def rule_table():
-    table = [{'id': it.name, 'shortDescription': {'text': it.text}, 'fullDescription': {'text': it.met}} for it in FAULTS.values()]
+    table = [
+        {'id': it.name, 'shortDescription': {'text': it.text}, 'fullDescription': {'text': it.met}}
+        for it in FAULTS.values()
+    ]
     table += [{'id': name, 'shortDescription': {'text': text}} for name, text in OTHERS.items()]
     for code, rule in RULES.items():
-        table.append({'id': code, 'shortDescription': {'text': rule.head}, 'help': {'text': rule.help},
-                      'fullDescription': {'text': rule.sentence or rule.head}})
+        table.append(
+            {
+                'id': code,
+                'shortDescription': {'text': rule.head},
+                'help': {'text': rule.help},
+                'fullDescription': {'text': rule.sentence or rule.head},
+            }
+        )
     return table
 
 
@@ -49,11 +67,19 @@ def result(found, places):
         rule = found.rule
     kind = KINDS.get(found.verdict, 'fail')
     text = '. '.join(it[:1].upper() + it[1:] for it in [found.message or found.verdict, *found.sentences])
-    told = {'ruleId': rule, 'ruleIndex': places[rule], 'kind': kind, 'level': 'error' if kind == 'fail' else 'none',
-            'message': {'text': text}, 'locations': [location(found, found.line, found.column)]}
+    told = {
+        'ruleId': rule,
+        'ruleIndex': places[rule],
+        'kind': kind,
+        'level': 'error' if kind == 'fail' else 'none',
+        'message': {'text': text},
+        'locations': [location(found, found.line, found.column)],
+    }
     if found.verdict == 'refused' and len(found.places) > 1:
-        told['relatedLocations'] = [{'id': at, **location(found, it.line, it.column), 'message': {'text': f'{it.rule}: {it.word}'}}
-                                    for at, it in enumerate(found.places[1:], 1)]
+        told['relatedLocations'] = [
+            {'id': at, **location(found, it.line, it.column), 'message': {'text': f'{it.rule}: {it.word}'}}
+            for at, it in enumerate(found.places[1:], 1)
+        ]
     if found.steps:
         told['codeFlows'] = [{'threadFlows': [{'locations': flow(found)}]}]
     return told
@@ -61,9 +87,15 @@ def result(found, places):
 
 def flow(found):
     """The path: a location for each note, and for each step that changes nothing."""
-    return [{'location': {**location(found, it.line, None), 'message': {'text': it.text}}, 'nestingLevel': it.depth,
-             'executionOrder': it.steps[0] if it.steps[0] > 0 else 1, 'importance': 'essential' if it.said else 'unimportant'}
-            for it in notes(found, True)]
+    return [
+        {
+            'location': {**location(found, it.line, None), 'message': {'text': it.text}},
+            'nestingLevel': it.depth,
+            'executionOrder': it.steps[0] if it.steps[0] > 0 else 1,
+            'importance': 'essential' if it.said else 'unimportant',
+        }
+        for it in notes(found, True)
+    ]
 
 
 def location(found, line, column):

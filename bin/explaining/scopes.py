@@ -1,14 +1,14 @@
-"""What an accepted C file declares and does: structs, functions, and each act with its line and the variables in scope there.
+"""What an accepted C file declares and does: structs, functions, and each act with its line and the variables in scope.
 
-Variables have the numbers that the program prints: pointers and data apart, in order of the text; of a function its result, then
-its parameters, then its local variables (docs/LANGUAGE.md).
+Variables have the numbers that the program prints: pointers and data apart, in order of the text; of a function its
+result, then its parameters, then its local variables (docs/LANGUAGE.md).
 """
 from dataclasses import dataclass, field
 from typing import NamedTuple, Optional
 
 
 class Variable(NamedTuple):
-    kind: str          # var or data
+    kind: str  # var or data
     number: int
     name: str
     struct: Optional[str]
@@ -16,6 +16,7 @@ class Variable(NamedTuple):
 
 class Scope(NamedTuple):
     """A variable in scope, and those before it."""
+
     variable: Variable
     outer: Optional['Scope']
 
@@ -23,7 +24,8 @@ class Scope(NamedTuple):
 @dataclass
 class Act:
     """Something that a step may do: an assignment, call, free, return, test, or the end of a block."""
-    kind: str          # assign, call, free, return, test, assert, error, end
+
+    kind: str  # assign, call, free, return, test, assert, error, end
     line: int
     tokens: list
     scope: Optional[Scope]
@@ -40,11 +42,11 @@ class Act:
 @dataclass
 class Function:
     name: str
-    first: int         # the lines of its head and of its closing brace
+    first: int  # the lines of its head and of its closing brace
     last: int
     result: Optional[Variable]
     parameters: list
-    own: list = field(default_factory=list)      # its local variables
+    own: list = field(default_factory=list)  # its local variables
 
 
 class Program:
@@ -81,7 +83,7 @@ class Program:
             kind, name, begin = self.text(), self.text(1), self.at + 3
             self.skip(';')
             if kind == 'struct':
-                self.structs[name] = fields_of([it.text for it in self.tokens[begin:self.at - 2]])
+                self.structs[name] = fields_of([it.text for it in self.tokens[begin : self.at - 2]])
         elif self.text() == 'struct' and self.text(2) == ';':
             self.at += 3
         elif self.text() == 'extern':
@@ -231,7 +233,7 @@ class Program:
         """A statement of one step, up to the token behind it, which is passed."""
         begun = self.at
         self.until(last)
-        words = [it.text for it in self.tokens[begun:self.at]]
+        words = [it.text for it in self.tokens[begun : self.at]]
         self.at += 1
         if not words:
             return

@@ -40,8 +40,8 @@ def source_line(out, found, line, caret=None, length=1):
     if len(text) > LONGEST:
         at = len(below.rstrip('~').rstrip('^')) if caret else 0
         begun = max(0, min(at - LONGEST // 2, len(text) - LONGEST))
-        text, below = '..' + text[begun:begun + LONGEST] + '..', '  ' + below[begun:]
-        below = below[:LONGEST + 4]
+        text, below = '..' + text[begun : begun + LONGEST] + '..', '  ' + below[begun:]
+        below = below[: LONGEST + 4]
     out.put(f'{line:6} | {text}')
     if caret:
         out.put(f'       | {out.styled(below, "caret")}')
@@ -52,7 +52,8 @@ LONGEST = 300
 
 def print_explained(out, found, all_steps=False):
     {'SAFE': print_safe, 'UNSAFE': print_unsafe, 'UNKNOWN': print_unknown, 'refused': print_refused}.get(
-        found.verdict, print_failed)(out, found, all_steps)
+        found.verdict, print_failed
+    )(out, found, all_steps)
     print_ladder(out, found)
 
 

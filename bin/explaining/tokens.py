@@ -1,12 +1,15 @@
-"""The text of a C file: its lines as they are shown, and its tokens with their places, as docs/LANGUAGE.md counts them."""
+"""The text of a C file: its lines as they are shown, and its tokens with their places (docs/LANGUAGE.md)."""
 import re, unicodedata
 from typing import NamedTuple
 
 INCLUDE = rb'#[ \t\r]*i[ \t\r]*n[^\n]*'
 PASSED = re.compile(rb'[ \t\n\v\f\r]+|//[^\n]*|/\*(?s:.*?)\*/')
-TOKEN = re.compile(rb'''(?P<word>[A-Za-z_][A-Za-z_0-9]*)|(?P<number>[0-9][A-Za-z_0-9.]*)
+TOKEN = re.compile(
+    rb'''(?P<word>[A-Za-z_][A-Za-z_0-9]*)|(?P<number>[0-9][A-Za-z_0-9.]*)
     |(?P<mark>->|==|!=|&&|\|\||[{}();,*=!])|(?P<quoted>"(?:[^"\\\n]|\\[^\n])*"|'(?:[^'\\\n]|\\[^\n])*')
-    |(?P<hash>\#)|(?P<refused>.)''', re.VERBOSE)
+    |(?P<hash>\#)|(?P<refused>.)''',
+    re.VERBOSE,
+)
 
 
 class Token(NamedTuple):
@@ -37,14 +40,14 @@ class Source:
     def caret(self, number, column, length=1):
         """What stands below a shown line, so that its caret is below the column; tabs stay tabs."""
         line = self.lines[number - 1] if 0 < number <= len(self.lines) else b''
-        before, at = shown(line[:column - 1]), shown(line[column - 1:column - 1 + max(1, length)])
+        before, at = shown(line[: column - 1]), shown(line[column - 1 : column - 1 + max(1, length)])
         blanks = ''.join('\t' if it == '\t' else ' ' * width(it) for it in before)
         return blanks + '^' + '~' * (sum(map(width, at)) - 1)
 
     def character(self, number, column):
         """A column in characters in place of bytes, as editors count it."""
         line = self.lines[number - 1] if 0 < number <= len(self.lines) else b''
-        return len(line[:column - 1].decode('utf-8', 'replace')) + max(0, column - 1 - len(line)) + 1
+        return len(line[: column - 1].decode('utf-8', 'replace')) + max(0, column - 1 - len(line)) + 1
 
     def tokens(self):
         """The tokens of the file; bytes with which none begins are of the kind `refused`."""
@@ -65,7 +68,7 @@ class Source:
     def token_at(self, number, column):
         """The bytes of the token that begins at a place; one byte where none does, and nothing behind the end."""
         line = self.lines[number - 1] if 0 < number <= len(self.lines) else b''
-        rest = line[column - 1:]
+        rest = line[column - 1 :]
         found = TOKEN.match(rest)
         return found[0] if found else rest[:1]
 
@@ -74,7 +77,9 @@ def is_include(text, at, begun):
     """Whether the `#` at a place begins an include line that is passed over."""
     line = text[begun:].split(b'\n', 1)[0]
     packed = bytes(it for it in line if it not in b' \t\r')
-    return not text[begun:at].strip(b' \t') and re.fullmatch(rb'#include<std(lib|def|bool)\.h>|#include<assert\.h>', packed)
+    return not text[begun:at].strip(b' \t') and re.fullmatch(
+        rb'#include<std(lib|def|bool)\.h>|#include<assert\.h>', packed
+    )
 
 
 def shown(text):

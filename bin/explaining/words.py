@@ -1,10 +1,12 @@
 """The words of bin/explain: its own options, and those that it hands on to `forester verify`."""
 from typing import NamedTuple, Optional
 
-USAGE = '''usage: bin/explain verify FILE.. [options of verify] [--html OUT] [--sarif OUT] [--json OUT] [--all-steps] [--once]
-                          [--seconds N] [--jobs N]
+USAGE = '''usage: bin/explain verify FILE.. [options of verify] [--html OUT] [--sarif OUT] [--json OUT] [--all-steps]
+                          [--once] [--seconds N] [--jobs N]
        bin/explain --help | --version'''
-HELP = USAGE + '''
+HELP = (
+    USAGE
+    + '''
 
 Runs `bin/forester verify` on C files, says its answer in words, and ends with its status.
 
@@ -13,17 +15,19 @@ Runs `bin/forester verify` on C files, says its answer in words, and ends with i
   --sarif OUT    the answer as SARIF 2.1.0, for editors and code hosts
   --json OUT     the same facts plainly
   --all-steps    the path of a fault with the steps that change nothing
-  --once         one call, with the words as they are; without it, where neither --steps, --learn nor --join stands, and the
-                 answer is UNKNOWN, further words are tried, one after the other
-  --seconds N    ends what still runs after so many seconds (status 124); the steps of the ladder share them
+  --once         one call, with the words as they are; without it, where neither --steps, --learn nor --join stands,
+                 and the answer is UNKNOWN, further words are tried, one after the other: a ladder
+  --seconds N    of each file: ends what still runs after so many seconds (status 124); the ladder shares them
   --jobs N       with several files, how many are verified at once; with one it goes to the program
 
 The options of verify are those of the program (docs/REPORTS.md). The variable FORESTER names another program than
 bin/forester. With several files the status is the worst one, in the order 7, 6, 5, 4, 2, 1, 3, 0 (124 stands before 3).
 
-Statuses: 0 SAFE, 1 UNSAFE, 2 the words do not read, 3 UNKNOWN, 4 a file is refused, 5 a file was not read, 6 something was not
-written, 7 want of memory, 124 the time was over, 125 the program could not be run, 128 and more: it was ended by a signal.
+Statuses: 0 SAFE, 1 UNSAFE, 2 the words do not read, 3 UNKNOWN, 4 a file is refused, 5 a file was not read, 6 something
+was not written, 7 want of memory, 124 the time was over, 125 the program could not be run, 128 and more: it was ended
+by a signal.
 What is proved is the program's answer, and nothing of this command. The guide is docs/USING.md.'''
+)
 
 WITH_VALUE = {'--boxes', '--height', '--steps', '--jobs', '--learn', '--max-height', '--join'}
 WITHOUT_VALUE = {'--malloc-null', '--brief', '--path'}
@@ -36,12 +40,12 @@ class Misused(Exception):
 
 class Words(NamedTuple):
     files: list
-    options: list            # the words for the program, but for FILE; an option and its value are one entry
-    outs: dict               # of --html, --sarif, --json
+    options: list  # the words for the program, but for FILE; an option and its value are one entry
+    outs: dict  # of --html, --sarif, --json
     all_steps: bool
     once: bool
     seconds: Optional[float]
-    jobs: int                # how many files at once
+    jobs: int  # how many files at once
 
     def named(self):
         return {it[0] for it in self.options}

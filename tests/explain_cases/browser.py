@@ -15,10 +15,25 @@ class Browser:
             os.dup2(two, 4)
             os.set_inheritable(3, True)
             os.set_inheritable(4, True)
+
         self.run = subprocess.Popen(
-            [shutil.which('chromium'), '--headless', '--no-sandbox', '--disable-gpu', '--no-first-run', '--disable-extensions',
-             f'--user-data-dir={self.folder}', '--remote-debugging-pipe', 'about:blank'],
-            preexec_fn=ends, close_fds=False, stdin=subprocess.DEVNULL, stdout=subprocess.DEVNULL, stderr=subprocess.DEVNULL)
+            [
+                shutil.which('chromium'),
+                '--headless',
+                '--no-sandbox',
+                '--disable-gpu',
+                '--no-first-run',
+                '--disable-extensions',
+                f'--user-data-dir={self.folder}',
+                '--remote-debugging-pipe',
+                'about:blank',
+            ],
+            preexec_fn=ends,
+            close_fds=False,
+            stdin=subprocess.DEVNULL,
+            stdout=subprocess.DEVNULL,
+            stderr=subprocess.DEVNULL,
+        )
         os.close(to_read)
         os.close(to_write)
         self.number, self.kept, self.session, self.events = 0, b'', None, []
@@ -30,7 +45,12 @@ class Browser:
     def ask(self, method, **parameters):
         """Sends a command, and waits for its answer."""
         self.number += 1
-        told = {'id': self.number, 'method': method, 'params': parameters, **({'sessionId': self.session} if self.session else {})}
+        told = {
+            'id': self.number,
+            'method': method,
+            'params': parameters,
+            **({'sessionId': self.session} if self.session else {}),
+        }
         os.write(self.to, json.dumps(told).encode() + b'\0')
         while True:
             answer = self.next()
@@ -58,13 +78,19 @@ class Browser:
 
     def size(self, width, height, dark=False):
         self.ask('Emulation.setDeviceMetricsOverride', width=width, height=height, deviceScaleFactor=1, mobile=False)
-        self.ask('Emulation.setEmulatedMedia', features=[{'name': 'prefers-color-scheme', 'value': 'dark' if dark else 'light'}])
+        self.ask(
+            'Emulation.setEmulatedMedia',
+            features=[{'name': 'prefers-color-scheme', 'value': 'dark' if dark else 'light'}],
+        )
 
     def open(self, path):
         """Opens a file; the seconds until its script has run."""
         self.events, begun = [], time.monotonic()
         self.ask('Page.navigate', url='file://' + str(path).replace('%', '%25').replace('#', '%23').replace('?', '%3F'))
-        while self.value("document.readyState === 'complete' && document.body && document.body.dataset.ready === 'yes'") is not True:
+        while (
+            self.value("document.readyState === 'complete' && document.body && document.body.dataset.ready === 'yes'")
+            is not True
+        ):
             if time.monotonic() - begun > 60:
                 raise RuntimeError(f'the page is not ready: {self.complaints()}')
             time.sleep(0.02)
@@ -76,22 +102,33 @@ class Browser:
 
     def click(self, selector):
         """Clicks in the middle of an element, with a mouse."""
-        place = self.value(f'(() => {{ const it = document.querySelector({json.dumps(selector)}); it.scrollIntoView({{block: "center"}}); '
-                           'const box = it.getBoundingClientRect(); return [box.x + box.width / 2, box.y + box.height / 2]; })()')
+        place = self.value(
+            f'(() => {{ const it = document.querySelector({json.dumps(selector)}); '
+            'it.scrollIntoView({block: "center"}); '
+            'const box = it.getBoundingClientRect(); return [box.x + box.width / 2, box.y + box.height / 2]; })()'
+        )
         for kind in ('mousePressed', 'mouseReleased'):
             self.ask('Input.dispatchMouseEvent', type=kind, x=place[0], y=place[1], button='left', clickCount=1)
 
     def drag(self, selector, to):
         """Clicks an element at a share of its width, as on a slider."""
-        x, y = self.value(f'(() => {{ const box = document.querySelector({json.dumps(selector)}).getBoundingClientRect(); '
-                          f'return [box.x + 8 + (box.width - 16) * {to}, box.y + box.height / 2]; }})()')
+        x, y = self.value(
+            f'(() => {{ const box = document.querySelector({json.dumps(selector)}).getBoundingClientRect(); '
+            f'return [box.x + 8 + (box.width - 16) * {to}, box.y + box.height / 2]; }})()'
+        )
         for kind in ('mousePressed', 'mouseReleased'):
             self.ask('Input.dispatchMouseEvent', type=kind, x=x, y=y, button='left', clickCount=1)
 
     def key(self, name, code=0):
         for kind in ('keyDown', 'keyUp'):
-            self.ask('Input.dispatchKeyEvent', type=kind, key=name, code=name, windowsVirtualKeyCode=code,
-                     **({'text': '\r'} if name == 'Enter' and kind == 'keyDown' else {}))
+            self.ask(
+                'Input.dispatchKeyEvent',
+                type=kind,
+                key=name,
+                code=name,
+                windowsVirtualKeyCode=code,
+                **({'text': '\r'} if name == 'Enter' and kind == 'keyDown' else {}),
+            )
 
     def picture(self, path):
         with open(path, 'wb') as file:

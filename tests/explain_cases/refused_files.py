@@ -53,7 +53,8 @@ FILES = [
     ('K7', main(';' * 4096 + '@;')),
     ('K8', 'int main(void) {\n  assert(1' + ' && 1' * 32763 + '@);\n}\n'),
     ('K9', 'void f(void) { ' + ';' * 1024 + ' }\nint @main(void) {\n' + 'f();\n' * 16 + '}\n'),
-    ('K10', many(64, 'void f{}(void) {{ }}\n') + 'int @main(void) { }\n')]
+    ('K10', many(64, 'void f{}(void) {{ }}\n') + 'int @main(void) { }\n'),
+]
 
 # of files of boxes: the rule, the line, and the text; the program is that of PROGRAM
 PROGRAM = NODE + 'int main(void) { return 0; }\n'
@@ -66,12 +67,13 @@ BOXES = [
     ('B5', 1, 'box b in n out n\nroot 0 s0\ns0 = null\nroot 1 s0\ns0 = n()\nend\n'),
     ('B6', 1, 'box b in n out n\nroot 0 s0\ns0 = n(x=s1)\ns1 = null\nroot 1 s0\ns0 = n()\nend\n'),
     ('B7', 1, 'box b in n out n\nroot 0 s0\ns0 = n(x=s1)\ns1 = ref 1\nroot 1 s0\nend\n'),
-    ('K6', 257, ''.join(BOX.format(f'b{at}') for at in range(33)))]
+    ('K6', 257, ''.join(BOX.format(f'b{at}') for at in range(33))),
+]
 
 
 def place_of(text):
     """A text without its mark, the line and the column of the mark, and the word there."""
     at = text.index('@')
-    text = text[:at] + text[at + 1:]
+    text = text[:at] + text[at + 1 :]
     begun = text.rfind('\n', 0, at) + 1
     return text, text.count('\n', 0, at) + 1, at - begun + 1

@@ -23,7 +23,9 @@ class Guide(Case):
                 words = shlex.split(command.removeprefix('$ '))
                 self.assertEqual(words[:2], ['bin/explain', 'verify'])
                 _, out, _ = self.verify(*words[2:], built=BUILT)
-                pattern = ''.join(r'(?:.*\n)*' if it == '..' else re.escape(it) + r'\n' for it in wanted.split('\n')[:-1])
+                pattern = ''.join(
+                    r'(?:.*\n)*' if it == '..' else re.escape(it) + r'\n' for it in wanted.split('\n')[:-1]
+                )
                 self.assertRegex(out, rf'\A{pattern}\Z')
 
     def test_boxes_are_those_of_the_examples(self):
@@ -35,5 +37,6 @@ class Guide(Case):
 
     def test_rules_that_are_named(self):
         from explaining.rules import RULES
+
         named = set(re.findall(r'\b([PSTKLB]\d+)\b', (TOP / 'docs' / 'USING.md').read_text()))
         self.assertEqual(named - set(RULES), set())

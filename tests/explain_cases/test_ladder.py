@@ -1,9 +1,14 @@
 """The ladder: which words are tried, which are passed over, and what is said."""
 from .harness import BUILT, Case, EXAMPLES, OLD, SAFE, answer, needs_built, states
 
-TEXT = 'struct node { struct node *next; };\nint main(void) {\n  struct node *x = NULL;\n  while (__VERIFIER_nondet_int())\n    x = NULL;\n}\n'
-TRACE = ('UNKNOWN trace\nfault 1 null dereference\nline 3\nsteps 4\nchoices 1\ntrace 0 1\nedge 2\nlast\nforest\nend\nstore\nend\n'
-         + SAFE.split('\n', 1)[1])
+TEXT = (
+    'struct node { struct node *next; };\nint main(void) {\n  struct node '
+    '*x = NULL;\n  while (__VERIFIER_nondet_int())\n    x = NULL;\n}\n'
+)
+TRACE = (
+    'UNKNOWN trace\nfault 1 null dereference\nline 3\nsteps 4\n'
+    'choices 1\ntrace 0 1\nedge 2\nlast\nforest\nend\nstore\nend\n'
+) + SAFE.split('\n', 1)[1]
 GROWS, STAYS = states([1, 1, 2, 2, 3, 3, 4, 4]), states([2, 2, 2, 2, 2, 2, 2, 2])
 LEARN = ['--steps', '200', '--learn', '4', '--join', '2000']
 
@@ -21,20 +26,29 @@ class Ladder(Case):
         self.assertNotIn('step', out)
 
     def test_without_the_boxes_and_on(self):
-        status, out, calls = self.climb(answer('20000', '--join', out=SAFE), answer(status=3, out=GROWS), words=('--boxes', 'b.box'))
-        self.assertEqual(calls, [['--boxes', 'b.box'], [], ['--boxes', 'b.box', *LEARN], ['--boxes', 'b.box', '--join', '20000']])
+        status, out, calls = self.climb(
+            answer('20000', '--join', out=SAFE), answer(status=3, out=GROWS), words=('--boxes', 'b.box')
+        )
+        self.assertEqual(
+            calls, [['--boxes', 'b.box'], [], ['--boxes', 'b.box', *LEARN], ['--boxes', 'b.box', '--join', '20000']]
+        )
         self.assertEqual(status, 0)
         self.assertIn('decided by step 4: --join 20000 (', out)
 
     def test_more_states_are_hopeless_where_roots_grow(self):
         status, out, calls = self.climb(answer(status=3, out=GROWS))
         self.assertEqual((status, calls), (3, [[], LEARN, ['--join', '20000']]))
-        self.assertIn('no step decided it: the words as they are; --steps 200 --learn 4 --join 2000; --join 20000\n', out)
+        self.assertIn(
+            'no step decided it: the words as they are; --steps 200 --learn 4 --join 2000; --join 20000\n', out
+        )
         self.assertIn('passed over: --steps 20000, since the roots at loop heads grow', out)
         self.assertIn('passed over: --max-height 4, since a greater height helps only where a trace was found', out)
 
     def test_more_states_where_they_do_not(self):
-        status, _, calls = self.climb(answer('--steps', '20000', status=1, out='UNSAFE\nfault 6 leak\nline 4\nstep 2\nchoices -\n'), answer(status=3, out=STAYS))
+        status, _, calls = self.climb(
+            answer('--steps', '20000', status=1, out='UNSAFE\nfault 6 leak\nline 4\nstep 2\nchoices -\n'),
+            answer(status=3, out=STAYS),
+        )
         self.assertEqual((status, calls[-1]), (1, ['--steps', '20000']))
 
     def test_a_trace_wants_a_greater_height(self):

@@ -23,7 +23,9 @@ class Sarif(Case):
         run = log['runs'][0]
         rules = run['tool']['driver']['rules']
         self.assertEqual(len({it['id'] for it in rules}), len(rules))
-        self.assertTrue(all(it['shortDescription']['text'] and it.get('fullDescription', {'text': 'x'})['text'] for it in rules))
+        self.assertTrue(
+            all(it['shortDescription']['text'] and it.get('fullDescription', {'text': 'x'})['text'] for it in rules)
+        )
         self.assertIs(type(run['invocations'][0]['executionSuccessful']), bool)
         for it in run['results']:
             self.assertEqual(rules[it['ruleIndex']]['id'], it['ruleId'])
@@ -35,8 +37,15 @@ class Sarif(Case):
                 for thread in flow['threadFlows']:
                     self.assertTrue(thread['locations'])
                     places += [step['location'] for step in thread['locations']]
-                    self.assertTrue(all(step['executionOrder'] > 0 and step['nestingLevel'] >= 0 for step in thread['locations']))
-                    self.assertTrue(all(step['importance'] in ('important', 'essential', 'unimportant') for step in thread['locations']))
+                    self.assertTrue(
+                        all(step['executionOrder'] > 0 and step['nestingLevel'] >= 0 for step in thread['locations'])
+                    )
+                    self.assertTrue(
+                        all(
+                            step['importance'] in ('important', 'essential', 'unimportant')
+                            for step in thread['locations']
+                        )
+                    )
             for place in places:
                 physical = place['physicalLocation']
                 self.assertNotRegex(physical['artifactLocation']['uri'], r'[ <>"\\]')
@@ -51,9 +60,14 @@ class Sarif(Case):
         result = run['results'][0]
         self.assertEqual((result['kind'], result['ruleId']), ('fail', 'double-free'))
         self.assertIn('X is dangling: the cell was made at line 9', result['message']['text'])
-        self.assertEqual(result['locations'][0]['physicalLocation']['region'], {'startLine': 12, 'startColumn': 3, 'snippet': {'text': '  free(x);'}})
+        self.assertEqual(
+            result['locations'][0]['physicalLocation']['region'],
+            {'startLine': 12, 'startColumn': 3, 'snippet': {'text': '  free(x);'}},
+        )
         steps = result['codeFlows'][0]['threadFlows'][0]['locations']
-        self.assertEqual([it['location']['physicalLocation']['region']['startLine'] for it in steps], [9, 10, 11, 3, 4, 5, 6, 11, 12])
+        self.assertEqual(
+            [it['location']['physicalLocation']['region']['startLine'] for it in steps], [9, 10, 11, 3, 4, 5, 6, 11, 12]
+        )
         self.assertEqual([it['nestingLevel'] for it in steps], [0, 0, 0, 1, 1, 1, 1, 0, 0])
         self.assertEqual(run['invocations'][0]['exitCode'], 1)
 
@@ -62,7 +76,9 @@ class Sarif(Case):
         self.answers(answer('verify', out=SAFE))
         self.assertEqual([(it['kind'], it['ruleId']) for it in self.sarif('file.c')['results']], [('pass', 'safe')])
         self.answers(answer('verify', status=3, out=states([1, 1])))
-        self.assertEqual([(it['kind'], it['ruleId']) for it in self.sarif('file.c', '--once')['results']], [('open', 'unknown')])
+        self.assertEqual(
+            [(it['kind'], it['ruleId']) for it in self.sarif('file.c', '--once')['results']], [('open', 'unknown')]
+        )
 
     def test_a_refusal(self):
         self.write('file.c', '/* \u00e9 */ struct m *p;\n')
@@ -82,8 +98,10 @@ class Sarif(Case):
         self.write('file.c', CUT)
         self.answers(answer('verify', out=SAFE))
         run = self.sarif(STRANGE, 'file.c')
-        self.assertEqual([it['location']['uri'] for it in run['artifacts']],
-                         ['a%20%3Cb%3E%20%26%20%22c%22%20%27d%27%20%C3%A9%20%2541%23.c', 'file.c'])
+        self.assertEqual(
+            [it['location']['uri'] for it in run['artifacts']],
+            ['a%20%3Cb%3E%20%26%20%22c%22%20%27d%27%20%C3%A9%20%2541%23.c', 'file.c'],
+        )
 
 
 class Json(Case):
@@ -96,21 +114,26 @@ class Json(Case):
     def test_unsafe(self):
         self.write(STRANGE, CUT)
         self.answers(answer('verify', status=1, out=unsafe('5 double free', 12, 9, CUT_PATH, '10')))
-        file, = self.facts(STRANGE)
+        (file,) = self.facts(STRANGE)
         self.assertEqual((file['file'], file['verdict'], file['line'], file['status']), (STRANGE, 'UNSAFE', 12, 1))
         self.assertEqual(file['report']['fault'], {'number': 5, 'text': 'double free'})
         self.assertEqual(file['report']['choices'], [1, 0])
         self.assertEqual(len(file['report']['path']), 9)
-        self.assertEqual(file['report']['path'][2], {'step': 3, 'line': 11, 'choice': None, 'calls': 0, 'changes': ['p is cell 1', 'k is 1'], 'end': None})
+        self.assertEqual(
+            file['report']['path'][2],
+            {'step': 3, 'line': 11, 'choice': None, 'calls': 0, 'changes': ['p is cell 1', 'k is 1'], 'end': None},
+        )
         self.assertEqual(file['ladder'][0]['words'], ['verify', '--path', '--', STRANGE])
 
     def test_unknown_and_refused(self):
         self.write('file.c', CUT)
         self.answers(answer('verify', status=3, out=states([1, 1, 2, 2])))
-        file, = self.facts('file.c', '--once')
-        self.assertEqual(file['report']['roots at loop heads'], {'first quarter': 1.0, 'last quarter': 2.0, 'grow': True})
+        (file,) = self.facts('file.c', '--once')
+        self.assertEqual(
+            file['report']['roots at loop heads'], {'first quarter': 1.0, 'last quarter': 2.0, 'grow': True}
+        )
         self.answers(answer('verify', status=4, notes='refused T12 15:1\n'))
-        file, = self.facts('file.c')
+        (file,) = self.facts('file.c')
         self.assertEqual((file['rule'], file['line'], file['column']), ('T12', 15, 1))
 
 

@@ -1,4 +1,4 @@
-"""Each rule of refusal once: its place, the caret below it, its word and its sentence; and the table of rules beside the documents."""
+"""Each rule of refusal once: its place, caret, word and sentence; and the table of rules beside the documents."""
 import re, unittest
 
 from .harness import BUILT, Case, OLD, TOP, answer, needs_built
@@ -13,7 +13,11 @@ class Refused(Case):
         text, line, column = place_of(text)
         self.write('file.c', text)
         word = Source('file.c', text.encode()).token_at(line, column).decode()
-        self.answers(answer('file.c', status=4, notes=f'refused {rule} {line}:{column}\n'), answer(status=3, out='UNKNOWN budget\n'), usage=OLD)
+        self.answers(
+            answer('file.c', status=4, notes=f'refused {rule} {line}:{column}\n'),
+            answer(status=3, out='UNKNOWN budget\n'),
+            usage=OLD,
+        )
         status, out, notes = self.verify('file.c', built=built)
         lines = out.split('\n')
         self.assertEqual((status, notes), (4, ''))
@@ -26,7 +30,7 @@ class Refused(Case):
             self.assertEqual(source[:9], f'{line:6} | ')
             self.assertEqual(caret[:9], '       | ')
             at = caret.index('^')
-            self.assertEqual(source[at:at + len(word)], word)
+            self.assertEqual(source[at : at + len(word)], word)
             self.assertEqual(caret[at:], '^' + '~' * (len(word) - 1))
             if len(source) < 200:
                 self.assertEqual(at - 9, column - 1)
@@ -60,7 +64,7 @@ class Refused(Case):
 
     def test_columns_are_bytes_and_carets_are_signs(self):
         text = '\t/* \u00e9\u65e5\u672c\u0301 */ p->y = 1;\n'
-        column = len(text[:text.index('y =')].encode()) + 1
+        column = len(text[: text.index('y =')].encode()) + 1
         self.write('file.c', text)
         self.answers(answer('file.c', status=4, notes=f'refused T2 1:{column}\n'), usage=OLD)
         _, out, _ = self.verify('file.c')
@@ -82,7 +86,10 @@ class AllRefusedWords(Case):
         self.write('file.c', self.TEXT + '#define X "a"\nchar c;\n')
         status, out, _ = self.verify('file.c', built=BUILT)
         self.assertEqual(status, 4)
-        self.assertIn("  the whole file has P9 at 1:1 ('typedef'), P9 at 3:3 ('static'), P8 at 6:1 ('#'), P6 at 7:1 ('char')", out.split('\n'))
+        self.assertIn(
+            "  the whole file has P9 at 1:1 ('typedef'), P9 at 3:3 ('static'), P8 at 6:1 ('#'), P6 at 7:1 ('char')",
+            out.split('\n'),
+        )
 
     @needs_built
     def test_at_most_twenty_times(self):
@@ -101,9 +108,15 @@ def add_cases():
     """A case for each rule, with the text of the refusal as it should be, and with a built program."""
     for rule, text in FILES:
         setattr(Refused, f'test_{rule}', lambda self, rule=rule, text=text: self.check(rule, text))
-        setattr(Refused, f'test_{rule}_built', needs_built(lambda self, rule=rule, text=text: self.check(rule, text, BUILT)))
+        setattr(
+            Refused, f'test_{rule}_built', needs_built(lambda self, rule=rule, text=text: self.check(rule, text, BUILT))
+        )
     for rule, line, text in BOXES:
-        setattr(Refused, f'test_{rule}_built', needs_built(lambda self, *it, rule=rule, line=line, text=text: self.boxes(rule, line, text, BUILT)))
+        setattr(
+            Refused,
+            f'test_{rule}_built',
+            needs_built(lambda self, *it, rule=rule, line=line, text=text: self.boxes(rule, line, text, BUILT)),
+        )
 
 
 add_cases()
@@ -111,10 +124,19 @@ add_cases()
 
 class Documents(unittest.TestCase):
     """The tables beside docs/LANGUAGE.md, docs/REPORTS.md and docs/SEMANTICS.md."""
-    language, reports, semantics = (' '.join((TOP / 'docs' / f'{it}.md').read_text().split()) for it in ('LANGUAGE', 'REPORTS', 'SEMANTICS'))
+
+    language, reports, semantics = (
+        ' '.join((TOP / 'docs' / f'{it}.md').read_text().split()) for it in ('LANGUAGE', 'REPORTS', 'SEMANTICS')
+    )
 
     def test_every_rule_is_here(self):
-        rows = set(re.findall(r'^\| ([LPSTKBC]\d+) \|', (TOP / 'docs/LANGUAGE.md').read_text() + (TOP / 'docs/REPORTS.md').read_text(), re.MULTILINE))
+        rows = set(
+            re.findall(
+                r'^\| ([LPSTKBC]\d+) \|',
+                (TOP / 'docs/LANGUAGE.md').read_text() + (TOP / 'docs/REPORTS.md').read_text(),
+                re.MULTILINE,
+            )
+        )
         prose = set(re.findall(r'\b([LPSTKBC]\d+)\b', self.language + self.reports)) - {'C11'}
         self.assertEqual(rows - set(RULES), set())
         self.assertEqual(prose - set(RULES), set())

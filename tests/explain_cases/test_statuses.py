@@ -17,19 +17,27 @@ class Statuses(Case):
         return status, out.split('\n')[0]
 
     def test_usage(self):
-        self.assertEqual(self.first(answer(status=2, notes=OLD), words=('file.c', '--learn', '3')),
-                         (2, 'file.c: error: the program does not have the option --learn'))
+        self.assertEqual(
+            self.first(answer(status=2, notes=OLD), words=('file.c', '--learn', '3')),
+            (2, 'file.c: error: the program does not have the option --learn'),
+        )
         status, line = self.first(answer(status=2, notes=OLD), words=('file.c', '--height', '9'))
         self.assertEqual((status, line[:53]), (2, 'file.c: error: the program does not read these words:'))
 
     def test_unread(self):
-        self.assertEqual(self.first(answer(status=5, notes='read fault\n'), words=('none.c',)),
-                         (5, 'none.c: error: none.c was not read: No such file or directory'))
+        self.assertEqual(
+            self.first(answer(status=5, notes='read fault\n'), words=('none.c',)),
+            (5, 'none.c: error: none.c was not read: No such file or directory'),
+        )
         (self.folder / 'folder').mkdir()
-        self.assertEqual(self.first(answer(status=5, notes='read fault\n'), words=('folder',)),
-                         (5, 'folder: error: folder was not read: Is a directory'))
-        self.assertEqual(self.first(answer(status=5, notes='read fault\n'), words=('file.c', '--boxes', 'none.box')),
-                         (5, 'file.c: error: none.box was not read: No such file or directory'))
+        self.assertEqual(
+            self.first(answer(status=5, notes='read fault\n'), words=('folder',)),
+            (5, 'folder: error: folder was not read: Is a directory'),
+        )
+        self.assertEqual(
+            self.first(answer(status=5, notes='read fault\n'), words=('file.c', '--boxes', 'none.box')),
+            (5, 'file.c: error: none.box was not read: No such file or directory'),
+        )
 
     def test_unwritten_and_no_memory(self):
         self.assertEqual(self.first(answer(status=6)), (6, 'file.c: error: the program could not write its answer'))
@@ -40,13 +48,23 @@ class Statuses(Case):
         self.assertEqual((status, line[:64]), (137, 'file.c: error: the program was ended by signal 9 (SIGKILL) after'))
 
     def test_a_report_that_does_not_read(self):
-        for text in ('', 'SAFE\n', 'SAFE\nheight 1\n', 'UNSAFE\nfault x\n', 'MAYBE\n', SAFE + 'more\n', UNSAFE + 'path\nstep 1 line 1\n'):
+        for text in (
+            '',
+            'SAFE\n',
+            'SAFE\nheight 1\n',
+            'UNSAFE\nfault x\n',
+            'MAYBE\n',
+            SAFE + 'more\n',
+            UNSAFE + 'path\nstep 1 line 1\n',
+        ):
             with self.subTest(text):
                 status, line = self.first(answer(status=0, out=text))
                 self.assertIn('file.c: error: the report does not read: ', line)
         for path in ('step 1 line 1 what', 'step x', 'step 1 line 1 var 0', ''):
             with self.subTest(path):
-                self.assertEqual(self.first(answer(status=1, out=f'{UNSAFE}path\n{path}\nend\n')), (1, 'file.c:1: error: leak'))
+                self.assertEqual(
+                    self.first(answer(status=1, out=f'{UNSAFE}path\n{path}\nend\n')), (1, 'file.c:1: error: leak')
+                )
 
     def test_no_program(self):
         self.answers(usage=OLD)
@@ -57,8 +75,16 @@ class Statuses(Case):
 
     def test_its_own_words(self):
         self.answers(answer(out=SAFE))
-        for words in ((), ('verify',), ('run', 'file.c'), ('verify', 'file.c', '--html'), ('verify', 'file.c', '--no'), ('verify', 'file.c', '--seconds', '0'),
-                      ('verify', 'file.c', '--height', '1', '--height=2'), ('verify', 'file.c', '--json', 'a', '--json', 'b')):
+        for words in (
+            (),
+            ('verify',),
+            ('run', 'file.c'),
+            ('verify', 'file.c', '--html'),
+            ('verify', 'file.c', '--no'),
+            ('verify', 'file.c', '--seconds', '0'),
+            ('verify', 'file.c', '--height', '1', '--height=2'),
+            ('verify', 'file.c', '--json', 'a', '--json', 'b'),
+        ):
             with self.subTest(words):
                 status, out, notes = self.explain(*words)
                 self.assertEqual((status, out), (2, ''))
@@ -80,14 +106,25 @@ class Statuses(Case):
 
     def test_a_reader_that_has_gone(self):
         self.answers(answer(out=SAFE))
-        run = subprocess.run(f'{sys.executable} {EXPLAIN} verify file.c --all-steps | true', shell=True, cwd=self.folder, capture_output=True,
-                             env={**os.environ, **self.around(None, {})}, timeout=60)
+        run = subprocess.run(
+            f'{sys.executable} {EXPLAIN} verify file.c --all-steps | true',
+            shell=True,
+            cwd=self.folder,
+            capture_output=True,
+            env={**os.environ, **self.around(None, {})},
+            timeout=60,
+        )
         self.assertNotIn(b'Traceback', run.stderr)
 
     def test_it_ends_what_it_began(self):
         self.answers(answer(wait=97))
-        run = subprocess.Popen([sys.executable, str(EXPLAIN), 'verify', 'file.c'], cwd=self.folder, stdout=subprocess.PIPE, stderr=subprocess.PIPE,
-                               env={**os.environ, **self.around(None, {})})
+        run = subprocess.Popen(
+            [sys.executable, str(EXPLAIN), 'verify', 'file.c'],
+            cwd=self.folder,
+            stdout=subprocess.PIPE,
+            stderr=subprocess.PIPE,
+            env={**os.environ, **self.around(None, {})},
+        )
         while not self.calls():
             time.sleep(0.05)
         run.send_signal(signal.SIGTERM)
@@ -111,21 +148,40 @@ class ManyFiles(Case):
             names.append(self.write(f'file{at}.c', 'int main(void) { }\n'))
         outs = {0: SAFE, 1: UNSAFE, 3: 'UNKNOWN budget\nheight 1 budget 1 nodes 1\nnode 0 loc 0 start\nforest\nend\n'}
         notes = {4: 'refused S1 1:1\n', 5: 'read fault\n', 2: OLD}
-        self.answers(*(answer(name, status=status, out=outs.get(status, ''), notes=notes.get(status, '')) for name, status in zip(names, statuses)), usage=OLD)
+        self.answers(
+            *(
+                answer(name, status=status, out=outs.get(status, ''), notes=notes.get(status, ''))
+                for name, status in zip(names, statuses)
+            ),
+            usage=OLD,
+        )
         return self.verify(*names, '--once', *words)
 
     def test_a_line_each_and_a_table(self):
         status, out, notes = self.many(0, 1, 3, 4, 0, words=('--jobs', '3'))
         lines = out.split('\n')
         self.assertEqual((status, notes), (4, ''))
-        self.assertEqual(sorted(lines[:5])[0], 'file0.c: safe: no run of the program meets a fault; malloc never fails; 2 abstract states')
+        self.assertEqual(
+            sorted(lines[:5])[0],
+            'file0.c: safe: no run of the program meets a fault; malloc never fails; 2 abstract states',
+        )
         self.assertTrue(sorted(lines[:5])[1].startswith('file1.c:1: error: leak'))
         self.assertEqual(lines[6].split(), ['answer', 'status', 'files', 'seconds'])
-        self.assertEqual([it.split()[:3] for it in lines[7:12]],
-                         [['SAFE', '0', '2'], ['UNKNOWN', '3', '1'], ['UNSAFE', '1', '1'], ['refused', '4', '1'], ['all', '4', '5']])
+        self.assertEqual(
+            [it.split()[:3] for it in lines[7:12]],
+            [['SAFE', '0', '2'], ['UNKNOWN', '3', '1'], ['UNSAFE', '1', '1'], ['refused', '4', '1'], ['all', '4', '5']],
+        )
 
     def test_the_worst_status(self):
-        for statuses, worst in (((0, 3), 3), ((3, 1, 0), 1), ((1, 2), 2), ((2, 4), 4), ((4, 5), 5), ((5, 6), 6), ((6, 7, 0), 7)):
+        for statuses, worst in (
+            ((0, 3), 3),
+            ((3, 1, 0), 1),
+            ((1, 2), 2),
+            ((2, 4), 4),
+            ((4, 5), 5),
+            ((5, 6), 6),
+            ((6, 7, 0), 7),
+        ):
             with self.subTest(statuses):
                 self.assertEqual(self.many(*statuses)[0], worst)
 

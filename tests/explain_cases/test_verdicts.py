@@ -45,13 +45,20 @@ class Unsafe(Case):
 
     def test_whole_text(self):
         lines = self.told(CUT, CUT_PATH, '5 double free')
-        self.assertEqual(lines[:9], [
-            'file.c:12: error: double free', '    12 |   free(x);', '       |   ^',
-            '  x is dangling: the cell was made at line 9 in step 1 and freed at line 5 in step 6',
-            '  the run meets it without a choice, in step 9',
-            'file.c:9: note: step 1: cell 1 is made, a struct node; x is cell 1',
-            '     9 |   struct node *x = malloc(sizeof(struct node));',
-            'file.c:10: note: step 2: next of cell 1 is cell 1', '    10 |   x->next = x;'])
+        self.assertEqual(
+            lines[:9],
+            [
+                'file.c:12: error: double free',
+                '    12 |   free(x);',
+                '       |   ^',
+                '  x is dangling: the cell was made at line 9 in step 1 and freed at line 5 in step 6',
+                '  the run meets it without a choice, in step 9',
+                'file.c:9: note: step 1: cell 1 is made, a struct node; x is cell 1',
+                '     9 |   struct node *x = malloc(sizeof(struct node));',
+                'file.c:10: note: step 2: next of cell 1 is cell 1',
+                '    10 |   x->next = x;',
+            ],
+        )
         self.assertIn('file.c:3:   note: step 4: q is cell 1', lines)
         self.assertIn('file.c:11: note: step 8: cut() is unset; p is unset; k is unset', lines)
         self.assertEqual(lines[-3:], ['file.c:12: note: step 9: double free', '    12 |   free(x);', ''])
@@ -59,7 +66,10 @@ class Unsafe(Case):
 
     def test_steps_that_change_nothing(self):
         path = 'step 1 line 3 var 0 x null\nstep 2 line 4\nstep 3 line 4\nstep 4 line 5 fault 1 null dereference\n'
-        text = 'struct n { struct n *x; };\nint main(void) {\n  struct n *x = NULL;\n  if (x == NULL && x == NULL)\n    x->x = NULL;\n}\n'
+        text = (
+            'struct n { struct n *x; };\nint main(void) {\n  struct n *x = '
+            'NULL;\n  if (x == NULL && x == NULL)\n    x->x = NULL;\n}\n'
+        )
         lines = self.told(text, path, '1 null dereference')
         self.assertNotIn('file.c:4: note: steps 2 to 3', lines)
         self.assertIn('  x is null since line 3 in step 1', lines)
@@ -76,10 +86,18 @@ int main(void) {
   x = x->tail->tail;
 }
 '''
-        path = ('step 1 line 3 var 0 x cell 1 new 1 n\nstep 2 line 4 new 2 n cell 1 tail cell 2\nstep 3 line 5 var 1 y cell 2\n'
-                'step 4 line 6 var 1 y dangling cell 1 tail dangling free 2\nstep 5 line 7 fault 3 dangling dereference\n')
-        self.assertIn('  tail of cell 1 is dangling (here x->tail): the cell was made at line 4 in step 2 and freed at line 6 in step 4',
-                      self.told(text, path, '3 dangling dereference'))
+        path = (
+            'step 1 line 3 var 0 x cell 1 new 1 n\nstep 2 line 4 new '
+            '2 n cell 1 tail cell 2\nstep 3 line 5 var 1 y cell 2\n'
+            'step 4 line 6 var 1 y dangling cell 1 tail dangling free 2\nstep 5 line 7 fault 3 dangling dereference\n'
+        )
+        self.assertIn(
+            (
+                '  tail of cell 1 is dangling (here x->tail): the cell was '
+                'made at line 4 in step 2 and freed at line 6 in step 4'
+            ),
+            self.told(text, path, '3 dangling dereference'),
+        )
 
     def test_a_copy_of_a_dangling_pointer(self):
         text = '''struct n { struct n *t; };
@@ -92,20 +110,37 @@ int main(void) {
   c->t = NULL;
 }
 '''
-        path = ('step 1 line 3 var 0 a cell 1 new 1 n\nstep 2 line 4 var 1 b cell 2 new 2 n\nstep 3 line 5 var 0 a dangling free 1\n'
-                'step 4 line 6 var 1 b dangling free 2\nstep 5 line 7 var 2 c dangling\nstep 6 line 8 fault 3 dangling dereference\n')
-        self.assertIn('  c is dangling: the cell was made at line 4 in step 2 and freed at line 6 in step 4',
-                      self.told(text, path, '3 dangling dereference'))
+        path = (
+            'step 1 line 3 var 0 a cell 1 new 1 n\nstep 2 line 4 var 1 '
+            'b cell 2 new 2 n\nstep 3 line 5 var 0 a dangling free 1\n'
+            'step 4 line 6 var 1 b dangling free 2\nstep 5 line 7 var 2 '
+            'c dangling\nstep 6 line 8 fault 3 dangling dereference\n'
+        )
+        self.assertIn(
+            '  c is dangling: the cell was made at line 4 in step 2 and freed at line 6 in step 4',
+            self.told(text, path, '3 dangling dereference'),
+        )
 
     def test_a_field_that_was_never_set(self):
-        text = 'struct n { struct n *t; };\nint main(void) {\n  struct n *a = malloc(sizeof(struct n));\n  a->t->t = NULL;\n}\n'
+        text = (
+            'struct n { struct n *t; };\nint main(void) {\n  struct n '
+            '*a = malloc(sizeof(struct n));\n  a->t->t = NULL;\n}\n'
+        )
         path = 'step 1 line 3 var 0 a cell 1 new 1 n\nstep 2 line 4 fault 2 uninitialised dereference\n'
-        self.assertIn('  t of cell 1 is uninitialised (here a->t): the cell was made at line 3 in step 1, and this field was never set',
-                      self.told(text, path, '2 uninitialised dereference'))
+        self.assertIn(
+            (
+                '  t of cell 1 is uninitialised (here a->t): the cell was '
+                'made at line 3 in step 1, and this field was never set'
+            ),
+            self.told(text, path, '2 uninitialised dereference'),
+        )
 
     def test_free_of_what_was_never_set(self):
         text = 'struct n { struct n *t; };\nint main(void) {\n  struct n *a;\n  free(a);\n}\n'
-        self.assertIn('  a is uninitialised: it was never set', self.told(text, 'step 1 line 4 fault 4 invalid free\n', '4 invalid free'))
+        self.assertIn(
+            '  a is uninitialised: it was never set',
+            self.told(text, 'step 1 line 4 fault 4 invalid free\n', '4 invalid free'),
+        )
 
     def test_inner_variables_of_one_name(self):
         text = '''struct n { struct n *t; };
@@ -117,12 +152,17 @@ int main(void) {
   }
 }
 '''
-        path = 'step 1 line 3 var 0 a cell 1 new 1 n\nstep 2 line 5 var 1 a null\nstep 3 line 6 fault 1 null dereference\n'
+        path = (
+            'step 1 line 3 var 0 a cell 1 new 1 n\nstep 2 line 5 var 1 a null\nstep 3 line 6 fault 1 null dereference\n'
+        )
         self.assertIn('  a is null since line 5 in step 2', self.told(text, path, '1 null dereference'))
 
     def test_an_assertion(self):
         text = 'int main(void) {\n  int a = 1;\n  int b = 2;\n  assert(a == 1 && b == a);\n}\n'
-        path = 'step 1 line 2 data 0 a 1\nstep 2 line 3 data 1 b 2\nstep 3 line 4\nstep 4 line 4 fault 7 failed assertion\n'
+        path = (
+            'step 1 line 2 data 0 a 1\nstep 2 line 3 data 1 b 2\n'
+            'step 3 line 4\nstep 4 line 4 fault 7 failed assertion\n'
+        )
         self.assertIn('  here a is 1, b is 2', self.told(text, path, '7 failed assertion'))
 
     def test_an_indeterminate_test_behind_one_that_is_skipped(self):
@@ -141,16 +181,31 @@ int main(void) {
         head = 'struct n { struct n *t; };\nint main(void) {\n'
         made = 'step 1 line 3 var 0 a cell 1 new 1 n\n'
         for name, text, path, wanted in (
-                ('the variable is set', '  struct n *a = malloc(sizeof(struct n));\n  a = NULL;\n', made + 'step 2 line 4 fault 6 leak\n',
-                 'cell 1 is lost: it was made at line 3 in step 1, and a pointed to it until then'),
-                ('the block ends', '  { struct n *a = malloc(sizeof(struct n));\n  }\n', made + 'step 2 line 4 fault 6 leak\n',
-                 'cell 1 is lost: it was made at line 3 in step 1, and a pointed to it until then'),
-                ('the cell before it is freed', '  struct n *a = malloc(sizeof(struct n));\n  a->t = malloc(sizeof(struct n));\n  free(a);\n',
-                 made + 'step 2 line 4 new 2 n cell 1 t cell 2\nstep 3 line 5 fault 6 leak\n',
-                 'cell 2 is lost: it was made at line 4 in step 2, and t of cell 1 pointed to it until then'),
-                ('two at the end', '  struct n *a = malloc(sizeof(struct n));\n  a->t = malloc(sizeof(struct n));\n  return 0;\n',
-                 made + 'step 2 line 4 new 2 n cell 1 t cell 2\nstep 3 line 5 fault 6 leak\n',
-                 'the cells 1 and 2 are lost: cell 1 was made at line 3 in step 1, and a pointed to it until then')):
+            (
+                'the variable is set',
+                '  struct n *a = malloc(sizeof(struct n));\n  a = NULL;\n',
+                made + 'step 2 line 4 fault 6 leak\n',
+                'cell 1 is lost: it was made at line 3 in step 1, and a pointed to it until then',
+            ),
+            (
+                'the block ends',
+                '  { struct n *a = malloc(sizeof(struct n));\n  }\n',
+                made + 'step 2 line 4 fault 6 leak\n',
+                'cell 1 is lost: it was made at line 3 in step 1, and a pointed to it until then',
+            ),
+            (
+                'the cell before it is freed',
+                '  struct n *a = malloc(sizeof(struct n));\n  a->t = malloc(sizeof(struct n));\n  free(a);\n',
+                made + 'step 2 line 4 new 2 n cell 1 t cell 2\nstep 3 line 5 fault 6 leak\n',
+                'cell 2 is lost: it was made at line 4 in step 2, and t of cell 1 pointed to it until then',
+            ),
+            (
+                'two at the end',
+                '  struct n *a = malloc(sizeof(struct n));\n  a->t = malloc(sizeof(struct n));\n  return 0;\n',
+                made + 'step 2 line 4 new 2 n cell 1 t cell 2\nstep 3 line 5 fault 6 leak\n',
+                'the cells 1 and 2 are lost: cell 1 was made at line 3 in step 1, and a pointed to it until then',
+            ),
+        ):
             with self.subTest(name):
                 self.assertIn(f'  {wanted}', self.told(head + text + '}\n', path, '6 leak'))
 
@@ -164,12 +219,20 @@ int main(void) {
   make();
 }
 '''
-        path = ('step 1 line 7\nstep 2 line 3 var 1 a cell 1 new 1 n\nstep 3 line 4 var 0 make() cell 1 var 1 a uninit\n'
-                'step 4 line 7 fault 6 leak\n')
-        self.assertIn('  cell 1 is lost: it was made at line 3 in step 2, and make() pointed to it until then', self.told(text, path, '6 leak'))
+        path = (
+            'step 1 line 7\nstep 2 line 3 var 1 a cell 1 new 1 n\nstep 3 line 4 var 0 make() cell 1 var 1 a uninit\n'
+            'step 4 line 7 fault 6 leak\n'
+        )
+        self.assertIn(
+            '  cell 1 is lost: it was made at line 3 in step 2, and make() pointed to it until then',
+            self.told(text, path, '6 leak'),
+        )
 
     def test_names_that_are_words_of_the_path(self):
-        text = 'struct fault { struct fault *null; struct fault *cell; };\nint main(void) {\n  struct fault *starved = NULL;\n  starved->null = NULL;\n}\n'
+        text = (
+            'struct fault { struct fault *null; struct fault *cell; };\nint main(void) '
+            '{\n  struct fault *starved = NULL;\n  starved->null = NULL;\n}\n'
+        )
         path = 'step 1 line 3 var 0 starved null\nstep 2 line 4 fault 1 null dereference\n'
         self.assertIn('  starved is null since line 3 in step 1', self.told(text, path, '1 null dereference'))
 
@@ -183,7 +246,9 @@ int main(void) {
         self.write('file.c', CUT)
         self.answers(answer('verify', status=1, out=unsafe('5 double free', 12, 9)), usage=OLD)
         status, out, _ = self.verify('file.c')
-        self.assertEqual((status, out.split('\n')[:3]), (1, ['file.c:12: error: double free', '    12 |   free(x);', '       |   ^']))
+        self.assertEqual(
+            (status, out.split('\n')[:3]), (1, ['file.c:12: error: double free', '    12 |   free(x);', '       |   ^'])
+        )
         self.assertIn('left out: this program has no option --path', out)
         self.assertEqual(self.calls()[0], ['verify', '--', 'file.c'])
 
@@ -192,8 +257,10 @@ class Safe(Case):
     def test_one_line(self):
         self.write('file.c', CUT)
         self.answers(answer('verify', out=SAFE))
-        self.assertEqual(self.verify('file.c'), (0, 'file.c: safe: no run of the program meets a fault; malloc never fails; '
-                                                    '2 abstract states\n', ''))
+        self.assertEqual(
+            self.verify('file.c'),
+            (0, 'file.c: safe: no run of the program meets a fault; malloc never fails; ' '2 abstract states\n', ''),
+        )
 
     def test_malloc_may_fail(self):
         self.write('file.c', CUT)
@@ -201,7 +268,10 @@ class Safe(Case):
         self.assertIn('; malloc may fail; 2 abstract states\n', self.verify('file.c', '--malloc-null')[1])
 
     def test_boxes_that_fold_and_that_do_not(self):
-        boxes = ''.join(f'box {it} in node out node\nroot 0 s0\ns0 = node(next=s1)\ns1 = ref 1\nroot 1 s0\ns0 = node()\nend\n' for it in ('dll', 'seg'))
+        boxes = ''.join(
+            f'box {it} in node out node\nroot 0 s0\ns0 = node(next=s1)\ns1 = ref 1\nroot 1 s0\ns0 = node()\nend\n'
+            for it in ('dll', 'seg')
+        )
         self.write('file.c', CUT)
         self.answers(answer('verify', out=states([2, 2, 2], 'SAFE', boxes, 'fold dll 1 0\nfold dll 2 -')))
         self.assertIn('; box dll was folded 6 times; box seg was never folded\n', self.verify('file.c')[1])
@@ -209,7 +279,9 @@ class Safe(Case):
     @needs_built
     def test_examples(self):
         for name, boxes, times in (('dll', 'dll', '3 times'), ('skip', 'seg', '3 times')):
-            status, out, _ = self.verify(str(EXAMPLES / f'{name}.c'), '--boxes', str(EXAMPLES / f'{boxes}.box'), built=BUILT)
+            status, out, _ = self.verify(
+                str(EXAMPLES / f'{name}.c'), '--boxes', str(EXAMPLES / f'{boxes}.box'), built=BUILT
+            )
             self.assertEqual(status, 0)
             self.assertIn(f'; box {boxes} was folded {times}', out)
 
@@ -217,12 +289,28 @@ class Safe(Case):
 class Unknown(Case):
     def test_it_grows(self):
         self.write('file.c', CUT)
-        for usage, wanted in ((OLD, 'a box is wanted, which stands for what the loop adds each time (docs/USING.md)\n'),
-                              (None, 'a box is wanted, which stands for what the loop adds each time (docs/USING.md), or --learn 4 or --join 2000\n')):
-            self.answers(answer('verify', status=3, out=states([1, 1, 2, 2, 3, 3, 4, 4])), **({'usage': usage} if usage else {}))
+        for usage, wanted in (
+            (OLD, 'a box is wanted, which stands for what the loop adds each time (docs/USING.md)\n'),
+            (
+                None,
+                (
+                    'a box is wanted, which stands for what the loop adds '
+                    'each time (docs/USING.md), or --learn 4 or --join 2000\n'
+                ),
+            ),
+        ):
+            self.answers(
+                answer('verify', status=3, out=states([1, 1, 2, 2, 3, 3, 4, 4])), **({'usage': usage} if usage else {})
+            )
             status, out, _ = self.verify('file.c', '--once')
             self.assertEqual(status, 3)
-            self.assertIn('roots at loop heads: 1.0 on average in the first quarter of the states there, 4.0 in the last: they grow\n', out)
+            self.assertIn(
+                (
+                    'roots at loop heads: 1.0 on average in the first quarter '
+                    'of the states there, 4.0 in the last: they grow\n'
+                ),
+                out,
+            )
             self.assertIn(f'  try: {wanted}', out)
 
     def test_it_does_not_grow(self):
@@ -232,15 +320,25 @@ class Unknown(Case):
         self.assertIn('they do not grow\n  try: more states: --steps 20000\n', out)
 
     def test_a_trace(self):
-        out = ('UNKNOWN trace\nfault 1 null dereference\nline 3\nsteps 4\nchoices 110\ntrace 0 1 3\nedge 2\nleaves 2\nlast\nforest\nend\nstore\nend\n'
-               + SAFE.split('\n', 1)[1])
+        out = (
+            'UNKNOWN trace\nfault 1 null dereference\nline 3\nsteps 4\nchoices '
+            '110\ntrace 0 1 3\nedge 2\nleaves 2\nlast\nforest\nend\nstore\nend\n'
+        ) + SAFE.split('\n', 1)[1]
         self.write('file.c', CUT)
         self.answers(answer('verify', status=3, out=out))
         status, out, _ = self.verify('file.c', '--once')
         self.assertEqual(status, 3)
-        self.assertEqual(out.split('\n')[:3], [
-            'file.c:3: warning: unknown: an abstract trace leads to null dereference here, but the run on its choices meets no fault',
-            '     3 |   struct node *q = p->next;', '       |   ^'])
+        self.assertEqual(
+            out.split('\n')[:3],
+            [
+                (
+                    'file.c:3: warning: unknown: an abstract trace leads to null '
+                    'dereference here, but the run on its choices meets no fault'
+                ),
+                '     3 |   struct node *q = p->next;',
+                '       |   ^',
+            ],
+        )
         self.assertIn('the trace leaves what the program does at its state 2', out)
         self.assertIn('try: join less: --max-height 4', out)
 
