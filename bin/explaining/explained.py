@@ -4,6 +4,7 @@ from dataclasses import dataclass, field
 from typing import Optional
 
 from . import blame, ladder as ladders, paths, rules
+from .choices import path_by_run, words_of_choices
 from .refusals import all_refused_words, read_source, word_at
 from .reports import read_refusal
 from .scopes import read_program
@@ -166,6 +167,8 @@ def unsafe(found, told, climbed):
     found.column = found.source.first_column(report.line)
     found.message = report.fault_text
     found.program = read_program(found.source)
+    if report.path is None:
+        report.path = path_by_run(climbed.program, found.file, told.words, report.choices)
     if report.path is not None:
         try:
             found.steps = paths.read_path(report.path)
@@ -179,6 +182,7 @@ def unsafe(found, told, climbed):
     choices = f'on the choices {report.choices}' if report.choices else 'without a choice'
     found.sentences.append(f'the run meets it {choices}, in step {report.step}')
     if report.path is None:
+        found.sentences += words_of_choices(climbed.program, found.file, told.words, report.choices)
         found.sentences.append('the values and the path are left out: this program has no option --path')
 
 

@@ -130,7 +130,12 @@ class Statuses(Case):
         run.send_signal(signal.SIGTERM)
         run.communicate(timeout=30)
         self.assertEqual(run.returncode, 143)
-        self.assertEqual(subprocess.run(['pgrep', '-f', str(self.folder)], capture_output=True).stdout, b'')
+        for _ in range(100):
+            left = subprocess.run(['pgrep', '-f', str(self.folder)], capture_output=True).stdout
+            if not left:
+                break
+            time.sleep(0.1)
+        self.assertEqual(left, b'')
 
     @needs_built
     def test_a_built_program(self):

@@ -253,6 +253,37 @@ int main(void) {
         self.assertEqual(self.calls()[0], ['verify', '--', 'file.c'])
 
 
+class ByRun(Case):
+    def test_the_steps_of_choices(self):
+        self.write('file.c', CUT)
+        self.answers(
+            answer('verify', status=1, out=unsafe('6 leak', 12, 8, choices='10')),
+            answer('run', '--choices', '1', status=3, out='STARVED\nstep 7\n'),
+            answer('run', status=3, out='STARVED\nstep 2\n'),
+            usage=OLD,
+        )
+        _, out, _ = self.verify('file.c', '--malloc-null')
+        self.assertIn('  the choices are taken so: 1 in step 2, 0 in step 7\n', out)
+        self.assertEqual(self.calls()[1], ['run', '--malloc-null', '--', 'file.c'])
+
+    def test_the_path_of_run(self):
+        usage = OLD.replace('[--malloc-null]\nforester gen', '[--malloc-null] [--path]\nforester gen')
+        self.write('file.c', CUT)
+        self.answers(
+            answer('verify', status=1, out=unsafe('5 double free', 12, 9, choices='1')),
+            answer('run', status=1, out=f'FAULT\nfault 5 double free\nline 12\nstep 9\npath\n{CUT_PATH}end\n'),
+            usage=usage,
+        )
+        _, out, _ = self.verify('file.c')
+        self.assertIn('  x is dangling: the cell was made at line 9 in step 1 and freed at line 5 in step 6\n', out)
+        self.assertEqual(self.calls()[1], ['run', '--choices', '1', '--path', '--', 'file.c'])
+
+    @needs_built
+    def test_an_example(self):
+        _, out, _ = self.verify(str(EXAMPLES / 'list_lost.c'), built=BUILT)
+        self.assertTrue('1 in step 2, 0 in step 7' in out or 'note: step 2: choice 1' in out)
+
+
 class Safe(Case):
     def test_one_line(self):
         self.write('file.c', CUT)
