@@ -12,7 +12,7 @@ def told(steps, program, fault):
         copied = copies(store, step, program)
         store.take(step)
         store.origin.update((place, cell) for place, cell in copied.items() if store.value(place) == ('dangling',))
-    acts = program.by_line.get(last.line, [])
+    acts = program.by_line.get(last.place, [])
     if fault == 6:
         return leak_words(store, acts, program)
     if fault == 7:
@@ -33,7 +33,7 @@ def copies(store, step, program):
     if len(known) == 1:
         return dict.fromkeys(places, *known)
     found = {}
-    for act in program.by_line.get(step.line, []):
+    for act in program.by_line.get(step.place, []):
         if act.kind == 'assign':
             values = [values[-1] for values in (along(store, act, it) for it in operands(sides(act)[1])) if values]
         elif act.kind in ('call', 'return'):

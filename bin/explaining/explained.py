@@ -1,10 +1,11 @@
 """What an answer means: one value, from which the terminal's text, SARIF, JSON and the page are made."""
-import errno, os, signal
+import errno, os, signal, tempfile
 from dataclasses import dataclass, field
 from typing import Optional
 
-from . import blame, ladder as ladders, paths, rules
+from . import adapted, blame, ladder as ladders, paths, rules
 from .choices import path_by_run, words_of_choices
+from .program import NOT_STARTED
 from .refusals import all_refused_words, read_source, word_at
 from .reports import read_refusal
 from .scopes import read_program
@@ -35,22 +36,56 @@ class Explained:
     ladder: object = None
     growth: object = None
     bad: Optional[list] = None  # the place of the bad value
+    text: Optional[Source] = None  # what was verified: the file, or what was made from it
+    lines: Optional[dict] = None  # of each line of what was made from it that of the file
 
-    def rung(self):
-        return self.ladder.rungs[-1] if self.ladder else None
+    def line_of(self, line):
+        """The line of the file for one of the text that was verified."""
+        return self.lines.get(line, line) if self.lines else line
 
 
 def explain(program, words, file, say=None):
     """Verifies a file, and says what came of it."""
-    climbed = ladders.Ladder(program, words, file, say)
+    if not words.adapt:
+        return explain_text(program, words, Explained(file, 0, ''), file, say)
+    try:
+        found = adapted.adapt(file)
+    except adapted.Unadapted as failed:
+        return Explained(file, NOT_STARTED, 'failed', str(failed))
+    if found.unread:
+        return Explained(file, 5, 'unread', f'{file} was not read: {found.unread}')
+    if found.refused:
+        return unadaptable(file, found.refused)
+    with tempfile.TemporaryDirectory() as folder:
+        path = adapted.write_adapted(found, file, folder)
+        told = explain_text(program, words, Explained(file, 0, '', lines=found.lines), path, say)
+    told.sentences += adapted.sentences(found, told.verdict)
+    return told
+
+
+def unadaptable(file, places):
+    """A file that the adapter refuses, with all its places."""
+    line, reason = places[0]
+    found = Explained(file, 4, 'refused', f'it cannot be adapted: {reason}', line=line or None)
+    found.source, _ = read_source(file)
+    found.sentences = [f'line {line}: {reason}' if line else reason for line, reason in places[1:]]
+    return found
+
+
+def explain_text(program, words, found, path, say):
+    """Verifies the text of a path, which is the file or was made from it."""
+    found.ladder = climbed = ladders.Ladder(program, words, path, say)
     last = climbed.climb()
     told = climbed.told()
     answer = last.answer
-    found = Explained(file, answer.status, '', ladder=climbed)
+    found.status = answer.status
     if told.report is not None and (last.report is not None or answer.status in (3, 7, 124) or answer.signal):
         found.report = told.report
-        found.source, _ = read_source(file)
+        found.source, _ = read_source(found.file)
+        found.text = read_source(path)[0] if found.lines else found.source
         VERDICTS[told.report.verdict.split()[0]](found, told, climbed)
+        for state in told.report.exploration.states if told.report.exploration else ():
+            state.line = found.line_of(state.line)
         if told is not last:
             found.sentences.append(f'the last step, {last.name}: {failed_words(last)}')
     elif answer.status == 4 and answer.signal is None:
@@ -124,7 +159,9 @@ def refused(found, program, words, answer):
     rule = rules.rule_of(refusal.rule)
     found.rule, found.line, found.column = refusal.rule, refusal.line, refusal.column
     found.message = f'{refusal.rule}: {rule.head}'
-    if refusal.column:
+    if found.lines and not refusal.of_boxes:
+        found.line, found.column = found.line_of(refusal.line), None
+    elif refusal.column:
         word = word_at(found.source, refusal.line, refusal.column)
         found.message += f": '{word}'" if word else ' (the end of the file)' if is_end(found.source, refusal) else ''
         found.length = max(1, len(found.source.token_at(refusal.line, refusal.column)))
@@ -132,7 +169,7 @@ def refused(found, program, words, answer):
         found.sentences.append(f'{refusal.rule}: {rule.sentence}')
     if rule.help:
         found.help.append(rule.help)
-    if refusal.rule.startswith('P'):
+    if refusal.rule.startswith('P') and not found.lines:
         found.places, whole = all_refused_words(program, found.source, refusal)
         if len(found.places) > 1:
             listed = ', '.join(f"{it.rule} at {it.line}:{it.column} ('{it.word}')" for it in found.places)
@@ -163,17 +200,19 @@ def box_sentences(report):
 
 def unsafe(found, told, climbed):
     report = found.report
-    found.verdict, found.line = 'UNSAFE', report.line
-    found.column = found.source.first_column(report.line)
+    found.verdict, found.line = 'UNSAFE', found.line_of(report.line)
+    found.column = found.source.first_column(found.line)
     found.message = report.fault_text
-    found.program = read_program(found.source)
+    found.program = read_program(found.text)
     if report.path is None:
-        report.path = path_by_run(climbed.program, found.file, told.words, report.choices)
+        report.path = path_by_run(climbed.program, climbed.file, told.words, report.choices)
     if report.path is not None:
         try:
             found.steps = paths.read_path(report.path)
         except (ValueError, IndexError):
             found.sentences.append('the path does not read')
+        for step in found.steps:
+            step.line = found.line_of(step.line)
         found.depths = paths.depths(found.steps, found.program)
         sentence, place = blame.told(found.steps, found.program, report.fault)
         found.bad = list(place) if place else None
@@ -182,7 +221,7 @@ def unsafe(found, told, climbed):
     choices = f'on the choices {report.choices}' if report.choices else 'without a choice'
     found.sentences.append(f'the run meets it {choices}, in step {report.step}')
     if report.path is None:
-        found.sentences += words_of_choices(climbed.program, found.file, told.words, report.choices)
+        found.sentences += words_of_choices(climbed.program, climbed.file, told.words, report.choices)
         found.sentences.append('the values and the path are left out: this program has no option --path')
 
 
@@ -206,7 +245,8 @@ def unknown(found, told, climbed):
         else:
             found.help.append('more states: --steps 20000')
     else:
-        found.line, found.column = report.line, found.source.first_column(report.line)
+        found.line = found.line_of(report.line)
+        found.column = found.source.first_column(found.line)
         found.message = (
             f'an abstract trace leads to {report.fault_text} here, but the run on its choices meets no fault'
         )

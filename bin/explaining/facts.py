@@ -22,7 +22,7 @@ def write_text(out, text):
         with open(part, 'wb') as file:
             file.write(data)
         os.replace(part, out)
-    except OSError:
+    except BaseException:
         try:
             os.unlink(part)
         except OSError:

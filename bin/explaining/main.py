@@ -5,7 +5,7 @@ from . import facts, many, pages, sarif
 from .explained import explain, worst
 from .ladder import waiting_line
 from .pictures import Missing
-from .program import NOT_STARTED, Program, Unstarted, version
+from .program import NOT_STARTED, Program, Stopped, Unstarted, version
 from .terminal import Printer, print_explained
 from .words import HELP, Misused, USAGE, read_words
 
@@ -17,7 +17,6 @@ def complain(text):
 
 
 def main(arguments):
-    signal.signal(signal.SIGTERM, lambda *_: sys.exit(143))
     if arguments in (['--help'], ['-h'], ['verify', '--help'], ['verify', '-h']):
         print(HELP)
         return 0
@@ -33,19 +32,22 @@ def main(arguments):
         complain(f'{misused}\n{USAGE}')
         return USAGE_STATUS
     program = Program()
+    before = [(it, signal.signal(it, program.stop)) for it in (signal.SIGTERM, signal.SIGINT)]
     try:
         return verify(program, words)
     except Unstarted as unstarted:
         complain(unstarted)
         return NOT_STARTED
-    except KeyboardInterrupt:
+    except Stopped as stopped:
         complain('ended')
-        return 130
+        return 128 + stopped.args[0]
     except BrokenPipeError:
         sys.stderr.close()
         return 141
     finally:
         program.end_all()
+        for it, handler in before:
+            signal.signal(it, handler)
 
 
 def verify(program, words):

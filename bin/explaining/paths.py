@@ -20,6 +20,7 @@ class Step:
     number: int
     line: int
     choice: Optional[str] = None
+    place: int = 0  # the line in the text that was verified
     changes: list = field(default_factory=list)
     end: Optional[str] = None  # what the last line says in place of changes: a fault, starved, bad choice
 
@@ -98,7 +99,7 @@ def read_path(lines):
 def read_step(words):
     if len(words) < 4 or words[0] != 'step' or words[2] != 'line':
         raise ValueError('a line of the path does not read')
-    step, at = Step(int(words[1]), int(words[3])), 4
+    step, at = Step(int(words[1]), int(words[3]), place=int(words[3])), 4
     if words[at : at + 1] == ['choice']:
         step.choice, at = words[at + 1], at + 2
     while at < len(words):
@@ -167,7 +168,7 @@ def depths(steps, program):
     for first, last, name in heads:
         of_line.update(dict.fromkeys(range(first, last + 1), name))
     for step in steps:
-        name = of_line.get(step.line)
+        name = of_line.get(step.place)
         if name in stack:
             del stack[stack.index(name) + 1 :]
         elif name:

@@ -21,6 +21,10 @@ class Unstarted(Exception):
     """The program could not be run."""
 
 
+class Stopped(Exception):
+    """A signal ended what was done; its number."""
+
+
 class Program:
     """The program that the variable FORESTER names, with words before its own if it likes, or else bin/forester."""
 
@@ -28,7 +32,7 @@ class Program:
         named = environment.get('FORESTER')
         self.command = shlex.split(named) if named else [str(TOP / 'bin' / 'forester')]
         self.usage = None
-        self.running, self.lock, self.ended = set(), threading.Lock(), False
+        self.running, self.lock, self.starting, self.stopped = set(), threading.RLock(), 0, None
 
     def options(self, command):
         """The options of one of its commands, by its own usage text."""
@@ -45,7 +49,32 @@ class Program:
 
     def call(self, words, seconds=None, waiting=None):
         """Runs it on words. What bin/forester says while it builds the program goes on to standard error."""
-        begun = time.monotonic()
+        begun, run, texts = time.monotonic(), self.start(words), [[], []]
+        try:
+            readers = [
+                threading.Thread(target=read, args=it, daemon=True)
+                for it in ((run.stdout, texts[0]), (run.stderr, texts[1]))
+            ]
+            for reader in readers:
+                reader.start()
+            timed_out = self.wait(run, begun, seconds, waiting)
+        finally:
+            end(run)
+            with self.lock:
+                self.running.discard(run)
+        for reader in readers:
+            reader.join(5)
+        for stream in (run.stdout, run.stderr):
+            stream.close()
+        out, notes = (b''.join(it).decode('utf-8', 'replace') for it in texts)
+        ended_by = -run.returncode if run.returncode < 0 and not timed_out else None
+        status = TIMED_OUT if timed_out else 128 + ended_by if ended_by else run.returncode
+        return Answer(words, status, out, notes, ended_by, time.monotonic() - begun)
+
+    def start(self, words):
+        """Starts it; a signal that comes meanwhile is heard when the run is known, so that it is ended too."""
+        with self.lock:
+            self.starting += 1
         try:
             run = subprocess.Popen(
                 [*self.command, *words],
@@ -54,31 +83,23 @@ class Program:
                 stderr=subprocess.PIPE,
                 start_new_session=True,
             )
+            with self.lock:
+                self.running.add(run)
         except OSError as failed:
             raise Unstarted(f'{self.command[0]}: {failed.strerror}') from failed
-        with self.lock:
-            self.running.add(run)
-        texts = [[], []]
-        readers = [
-            threading.Thread(target=read, args=it, daemon=True)
-            for it in ((run.stdout, texts[0]), (run.stderr, texts[1]))
-        ]
-        for reader in readers:
-            reader.start()
-        try:
-            timed_out = self.wait(run, begun, seconds, waiting)
         finally:
-            end(run)
-            for reader in readers:
-                reader.join(5)
-            for stream in (run.stdout, run.stderr):
-                stream.close()
             with self.lock:
-                self.running.discard(run)
-        out, notes = (b''.join(it).decode('utf-8', 'replace') for it in texts)
-        ended_by = -run.returncode if run.returncode < 0 and not timed_out else None
-        status = TIMED_OUT if timed_out else 128 + ended_by if ended_by else run.returncode
-        return Answer(words, status, out, notes, ended_by, time.monotonic() - begun)
+                self.starting -= 1
+        if self.stopped:
+            end(run)
+            raise Stopped(self.stopped)
+        return run
+
+    def stop(self, number, _=None):
+        """Hears a signal that is to end all of this."""
+        self.stopped = number
+        if not self.starting:
+            raise Stopped(number)
 
     def wait(self, run, begun, seconds, waiting):
         """Waits until the program ends; whether its time was over before."""

@@ -2,7 +2,7 @@
 from typing import NamedTuple, Optional
 
 USAGE = '''usage: bin/explain verify FILE.. [options of verify] [--html OUT] [--sarif OUT] [--json OUT] [--all-steps]
-                          [--once] [--seconds N] [--jobs N]
+                          [--once] [--adapt] [--seconds N] [--jobs N]
        bin/explain --help | --version'''
 HELP = (
     USAGE
@@ -17,6 +17,7 @@ Runs `bin/forester verify` on C files, says its answer in words, and ends with i
   --all-steps    the path of a fault with the steps that change nothing
   --once         one call, with the words as they are; without it, where neither --steps, --learn nor --join stands,
                  and the answer is UNKNOWN, further words are tried, one after the other: a ladder
+  --adapt        adapts C as people write it first, by bin/adapt, and tells places of the file itself
   --seconds N    of each file: ends what still runs after so many seconds (status 124); the ladder shares them
   --jobs N       with several files, how many are verified at once; with one it goes to the program
 
@@ -46,6 +47,7 @@ class Words(NamedTuple):
     once: bool
     seconds: Optional[float]
     jobs: int  # how many files at once
+    adapt: bool = False
 
     def named(self):
         return {it[0] for it in self.options}
@@ -77,7 +79,7 @@ def read_words(words):
                 own[name] = value
             else:
                 options.append((name, value))
-        elif word in ('--all-steps', '--once'):
+        elif word in ('--all-steps', '--once', '--adapt'):
             own[word] = True
         elif name in WITHOUT_VALUE and not equals:
             options.append((word,))
@@ -90,7 +92,7 @@ def read_words(words):
         jobs = number('--jobs', next((it[1] for it in options if it[0] == '--jobs'), '1'), 64)
         options = [it for it in options if it[0] != '--jobs']
     seconds = number('--seconds', own['--seconds'], 10_000_000) if '--seconds' in own else None
-    return Words(files, options, outs, '--all-steps' in own, '--once' in own, seconds, jobs)
+    return Words(files, options, outs, '--all-steps' in own, '--once' in own, seconds, jobs, '--adapt' in own)
 
 
 def number(name, text, most):

@@ -2,10 +2,9 @@
 import contextlib, io, os, pathlib, shlex, shutil, subprocess, sys, tempfile, unittest
 from unittest import mock
 
-TOP = pathlib.Path(__file__).resolve().parent.parent.parent
-sys.path.insert(0, str(TOP / 'bin'))
-from explaining.main import main  # noqa: E402
+from explaining.main import main
 
+TOP = pathlib.Path(__file__).resolve().parent.parent.parent
 EXPLAIN, EXAMPLES = TOP / 'bin' / 'explain', TOP / 'examples'
 OLD = '''forester verify FILE [--boxes FILE] [--height N] [--steps N] [--jobs N] [--malloc-null]
 forester run FILE [--choices LIST] [--steps N] [--malloc-null]

@@ -18,7 +18,11 @@ class Ladder(Case):
         self.write('file.c', TEXT)
         self.answers(*answers, **more)
         status, out, _ = self.verify('file.c', *words)
-        return status, out, [[it for it in words[1:-2] if it != '--path'] for words in self.calls() if words[0] == 'verify']
+        return (
+            status,
+            out,
+            [[it for it in words[1:-2] if it != '--path'] for words in self.calls() if words[0] == 'verify'],
+        )
 
     def test_decided_at_once(self):
         status, out, calls = self.climb(answer(out=SAFE))
