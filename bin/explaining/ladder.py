@@ -1,5 +1,5 @@
 """The ladder: which words are tried one after the other while the answer is UNKNOWN, and which are hopeless."""
-import sys, time
+import os, sys, time
 from dataclasses import dataclass
 from typing import Optional
 
@@ -62,7 +62,9 @@ class Ladder:
         options = list(self.words.options)
         if '--path' in self.there and ('--path',) not in options:
             options.append(('--path',))
-        plan = [] if self.words.once or NO_LADDER & self.words.named() else self.plan(options)
+        # what is no plain file, as a pipe, is read once
+        is_once = self.words.once or NO_LADDER & self.words.named() or not os.path.isfile(self.file)
+        plan = [] if is_once else self.plan(options)
         self.step('the words as they are', options, 1 + len(plan))
         had_plan = bool(plan)
         while plan and self.rungs[0].answer.status in (UNKNOWN, TIMED_OUT) and not self.is_decided():

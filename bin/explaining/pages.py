@@ -1,5 +1,5 @@
 """Pages to look at: one file each, without outside parts."""
-import html, json, os, pathlib
+import html, json, os, pathlib, time
 
 from .facts import write_text
 from .paths import change_words
@@ -7,8 +7,10 @@ from .pictures import draw
 from .terminal import shown
 
 HERE = pathlib.Path(__file__).resolve().parent
-# how many different pictures a page has at most, how many bytes of them, and how many bytes of other texts of states
-MOST_PICTURES, PICTURE_BYTES, TEXT_BYTES, AT_ONCE = 400, 2_500_000, 1_000_000, 40
+# how many different forests a page draws, of how many lines at most, how many bytes of pictures and of other texts it
+# has, and for how many seconds it is drawn
+MOST_PICTURES, MOST_LINES, PICTURE_BYTES, TEXT_BYTES, DRAWING, AT_ONCE = 400, 150, 2_500_000, 1_000_000, 40, 25
+MOST_STATES = 20_000
 
 
 def write(out, found, status):
@@ -78,7 +80,7 @@ def facts_of(found):
         told['structs'] = found.program.structs if found.program else {}
     exploration = found.report.exploration if found.report else None
     if exploration and exploration.states:
-        told['states'] = states_of(exploration)
+        told['states'] = states_of(found.report)
     return told
 
 
@@ -97,28 +99,16 @@ def step_facts(step, depth):
     return told
 
 
-def states_of(exploration):
-    """The abstract states: those at loop heads first get pictures, as many as a page bears; others their text."""
-    wanted = [('box', lines) for lines in exploration.boxes]
-    states = sorted(exploration.states, key=lambda it: not it.is_head())
-    wanted += [('forest', it.forest) for it in states]
+def states_of(report):
+    """The abstract states by their numbers in the table of different forests, and the forests: pictures, or texts."""
+    exploration = report.exploration
     places, texts = {}, []
-    for _, lines in wanted:
+    heads_first = sorted(exploration.states, key=lambda it: not it.is_head())
+    for lines in [*exploration.boxes, *(it.forest for it in heads_first)]:
         key = '\n'.join(lines)
         if key not in places:
             places[key] = len(texts)
             texts.append(lines)
-    pictures, size = [], 0
-    while len(pictures) < min(len(texts), MOST_PICTURES) and size < PICTURE_BYTES:
-        pictures += draw(texts[len(pictures) : len(pictures) + AT_ONCE])
-        size = sum(map(len, pictures))
-    others, size = [], 0
-    for lines in texts[len(pictures) :]:
-        size += sum(map(len, lines))
-        if size > TEXT_BYTES:
-            break
-        others.append('\n'.join(lines))
-    starts = line_of_locations(exploration)
     table = [
         [
             it.number,
@@ -132,20 +122,38 @@ def states_of(exploration):
         ]
         for it in exploration.states[:MOST_STATES]
     ]
+    folds = exploration.folds()
+    boxes = [[name, places['\n'.join(it)], folds[name]] for name, it in zip(exploration.box_names(), exploration.boxes)]
     return {
         'table': table,
         'count': exploration.count,
-        'starts': starts,
-        'pictures': pictures,
-        'texts': others,
-        'boxes': [
-            [name, places['\n'.join(lines)], exploration.folds()[name]]
-            for name, lines in zip(exploration.box_names(), exploration.boxes)
-        ],
+        'starts': line_of_locations(exploration),
+        'forests': drawn(texts),
+        'boxes': boxes,
+        'trace': report.trace,
+        'leaves': int(report.leaves) if (report.leaves or '-').isdecimal() else None,
     }
 
 
-MOST_STATES = 20_000
+def drawn(texts):
+    """Of each forest its picture, or its text where it is not drawn, as long as there is room."""
+    made, begun, size = [None] * len(texts), time.monotonic(), 0
+    small = [at for at, lines in enumerate(texts) if len(lines) <= MOST_LINES][:MOST_PICTURES]
+    for first in range(0, len(small), AT_ONCE):
+        if size > PICTURE_BYTES or time.monotonic() - begun > DRAWING:
+            break
+        some = small[first : first + AT_ONCE]
+        for at, picture in zip(some, draw([texts[it] for it in some])):
+            made[at] = picture
+            size += len(picture)
+    size = 0
+    for at, lines in enumerate(texts):
+        if made[at] is None:
+            size += sum(map(len, lines)) + len(lines)
+            if size > TEXT_BYTES:
+                break
+            made[at] = '\n'.join(lines)
+    return made
 
 
 def line_of_locations(exploration):

@@ -55,8 +55,10 @@ def blank(text, source, place):
 
 
 def read_source(path, most=1_048_577):
-    """A file's text, and the system's word where it was not read."""
+    """A file's text, and the system's word where it was not read; a pipe was read already, and is not read again."""
     try:
+        if not os.path.isfile(path) and os.path.exists(path) and not os.path.isdir(path):
+            return Source(path, b''), None
         with open(path, 'rb') as file:
             return Source(path, file.read(most)), None
     except OSError as failed:

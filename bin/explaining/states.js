@@ -19,6 +19,9 @@ function startStates() {
     lines.get(line).push(state);
   }
   showBoxes();
+  if (facts.states.trace.length) {
+    byId('right').append(made('button', {id: 'trace', onclick: showTrace}, 'show the trace'));
+  }
   byId('right').append(made('div', {id: 'list'}));
   showHeads();
   return {
@@ -52,6 +55,21 @@ function showStates(title, states, legend) {
   const here = facts.states.table.length;
   if (here < facts.states.count) list.append(made('p', {class: 'quiet'}, `only the first ${here} are here`));
   addStates(list, sorted, 0, null);
+}
+
+/* The states of the trace that was found, in their order, and where the program itself goes another way. */
+function showTrace() {
+  const {table, trace, leaves} = facts.states, list = byId('list');
+  const byNumber = new Map(table.map(it => [it.number, it]));
+  list.replaceChildren(made('h2', {id: 'where', tabindex: -1}, `Trace: ${trace.length} abstract states`),
+    made('button', {onclick: showHeads}, 'back to the loop heads'));
+  trace.forEach((number, place) => {
+    const state = byNumber.get(number);
+    if (!state) return;
+    if (place === leaves) list.append(made('p', {}, made('b', {}, 'Here the trace leaves what the program does:')));
+    list.append(made('h3', {}, locationWords(state)), stateElement(state));
+  });
+  byId('where').focus();
 }
 
 /* Adds some states to the list, and a button for those behind them. */
@@ -93,10 +111,10 @@ function showParent(number) {
   byId('where').focus();
 }
 
-/* A picture, or its text where the page has no picture of it. */
+/* A picture, or its text where it was not drawn. */
 function pictureOf(number) {
-  const {pictures, texts} = facts.states, it = made('div', {class: 'picture'});
-  if (number < pictures.length) it.innerHTML = pictures[number];
-  else it.append(made('pre', {}, texts[number - pictures.length] || 'not on this page: too many states'));
+  const forest = facts.states.forests[number], it = made('div', {class: 'picture'});
+  if (forest && forest.startsWith('<svg')) it.innerHTML = forest;
+  else it.append(made('pre', {}, forest || 'not on this page: too many states'));
   return it;
 }
