@@ -29,39 +29,61 @@ function start() {
   document.body.dataset.ready = 'yes';
 }
 
-/* The source, line by line; the lines that `clicked` names are buttons that call it. */
+/* The source, in parts of some lines: those in view at once, the others when there is time. */
+const LINES = 200, LINE_HEIGHT = 19.5, parts = [];
+let clickedLines = null;
+
 function drawSource(clicked) {
   const source = byId('source');
-  for (let begun = 0; begun < facts.source.length; begun += 200) {
-    const part = made('div', {});
-    facts.source.slice(begun, begun + 200).forEach((text, at) => {
-      const line = begun + at + 1;
-      const row = made('div', {class: 'row', id: 'L' + line}), code = made('code', {});
-      if (clicked && clicked.lines.has(line)) {
-        const says = `line ${line}, ${clicked.says(line)}`;
-        row.append(made('button', {onclick: () => clicked.call(line), 'aria-label': says}, line));
-      } else {
-        row.append(made('span', {}, line));
-      }
-      if (line === facts.line && facts.caret) {
-        const [from, length] = facts.caret;
-        code.append(text.slice(0, from), made('mark', {}, text.slice(from, from + length) || ' '),
-          text.slice(from + length));
-      } else {
-        code.append(text);
-      }
-      row.append(code);
-      if (line === facts.line) row.classList.add('fault');
-      part.append(row);
-    });
+  clickedLines = clicked;
+  for (let begun = 0; begun < facts.source.length; begun += LINES) {
+    const count = Math.min(LINES, facts.source.length - begun), part = made('div', {});
+    part.style.minHeight = count * LINE_HEIGHT + 'px';
+    parts.push(part);
     source.append(part);
   }
-  if (!facts.source.length) source.append(made('p', {class: 'quiet'}, 'the source is not here'));
+  if (!parts.length) source.append(made('p', {class: 'quiet'}, 'the source is not here'));
+  else fillPart(0);
+  fillLater(0);
+}
+
+/* Fills the parts one after the other, and lets the page be used between them. */
+function fillLater(from) {
+  if (from >= parts.length) return;
+  setTimeout(() => { fillPart(from); fillLater(from + 1); }, 5);
+}
+
+function fillPart(number) {
+  const part = parts[number];
+  if (!part || part.childElementCount) return;
+  const begun = number * LINES;
+  part.append(...facts.source.slice(begun, begun + LINES).map((text, at) => rowOf(begun + at + 1, text)));
+}
+
+/* A line; its number is a button where a click does something. */
+function rowOf(line, text) {
+  const row = made('div', {class: 'row', id: 'L' + line}), code = made('code', {});
+  if (clickedLines && clickedLines.lines.has(line)) {
+    const says = `line ${line}, ${clickedLines.says(line)}`;
+    row.append(made('button', {onclick: () => clickedLines.call(line), 'aria-label': says}, line));
+  } else {
+    row.append(made('span', {}, line));
+  }
+  if (line === facts.line && facts.caret) {
+    const [from, length] = facts.caret, until = from + length;
+    code.append(text.slice(0, from), made('mark', {}, text.slice(from, until) || ' '), text.slice(until));
+  } else {
+    code.append(text);
+  }
+  if (line === facts.line) row.classList.add('fault');
+  row.append(code);
+  return row;
 }
 
 /* Lights a line, and brings it into view within the source. */
 function light(line) {
   for (const it of document.querySelectorAll('.lit')) it.classList.remove('lit');
+  fillPart(Math.floor((line - 1) / LINES));
   const row = byId('L' + line);
   if (!row) return;
   row.classList.add('lit');
