@@ -3,13 +3,13 @@ import errno, os, signal, tempfile
 from dataclasses import dataclass, field
 from typing import Optional
 
-from . import adapted, blame, ladder as ladders, paths, rules
-from .choices import path_by_run, words_of_choices
+from . import adapted, rules
+from .ladder import Ladder
 from .program import NOT_STARTED
 from .refusals import all_refused_words, read_source, word_at
 from .reports import read_refusal
-from .scopes import read_program
 from .tokens import Source
+from .verdicts import tell
 
 # from the worst to the best; 124 says that the time was over
 ORDER = [7, 6, 5, 4, 2, 1, 124, 3, 0]
@@ -17,25 +17,27 @@ ORDER = [7, 6, 5, 4, 2, 1, 124, 3, 0]
 
 @dataclass
 class Explained:
+    """What is told of a file: of its verdict, or of what kept it from one."""
+
     file: str
     status: int
     verdict: str  # SAFE, UNSAFE, UNKNOWN, refused, or what went wrong
     message: str = ''
-    source: Optional[Source] = None
+    sentences: list = field(default_factory=list)  # what more is to be said
+    help: list = field(default_factory=list)  # what may be tried next
+    source: Optional[Source] = None  # of the file
     line: Optional[int] = None
     column: Optional[int] = None
-    length: int = 1
+    length: int = 1  # of the word there
     rule: Optional[str] = None  # of a refusal
-    sentences: list = field(default_factory=list)
-    help: list = field(default_factory=list)
-    places: list = field(default_factory=list)
-    report: object = None
-    program: object = None
-    steps: list = field(default_factory=list)
-    depths: list = field(default_factory=list)
-    ladder: object = None
-    growth: object = None
+    places: list = field(default_factory=list)  # all refused words of a file, where there are several
+    report: Optional[object] = None  # what the program printed
+    program: Optional[object] = None  # what the verified text declares and does
+    steps: list = field(default_factory=list)  # of the path
+    depths: list = field(default_factory=list)  # how many calls are open at each
     bad: Optional[list] = None  # the place of the bad value
+    ladder: Optional[Ladder] = None
+    growth: Optional[object] = None  # of the roots at loop heads
     text: Optional[Source] = None  # what was verified: the file, or what was made from it
     lines: Optional[dict] = None  # of each line of what was made from it that of the file
 
@@ -74,7 +76,7 @@ def unadaptable(file, places):
 
 def explain_text(program, words, found, path, say):
     """Verifies the text of a path, which is the file or was made from it."""
-    found.ladder = climbed = ladders.Ladder(program, words, path, say)
+    found.ladder = climbed = Ladder(program, words, path, say)
     last = climbed.climb()
     told = climbed.told()
     answer = last.answer
@@ -83,7 +85,7 @@ def explain_text(program, words, found, path, say):
         found.report = told.report
         found.source, _ = read_source(found.file)
         found.text = read_source(path)[0] if found.lines else found.source
-        VERDICTS[told.report.verdict.split()[0]](found, told, climbed)
+        tell(found, told, climbed)
         for state in told.report.exploration.states if told.report.exploration else ():
             state.line = found.line_of(state.line)
         if told is not last:
@@ -178,103 +180,6 @@ def refused(found, program, words, answer):
 
 def is_end(source, refusal):
     return refusal.line > len(source.lines) or not source.lines[refusal.line - 1][refusal.column - 1 :].strip()
-
-
-def safe(found, told, climbed):
-    report = found.report.exploration
-    found.verdict, found.line = 'SAFE', None
-    is_fallible = 'malloc-null' in report.flags
-    found.message = 'no run of the program meets a fault'
-    found.sentences.append(f'malloc {"may fail" if is_fallible else "never fails"}; {report.count} abstract states')
-    found.sentences.extend(box_sentences(report))
-
-
-def box_sentences(report):
-    if not report.states:
-        return []
-    return [
-        f'box {name} was folded {times} time{"s" * (times != 1)}' if times else f'box {name} was never folded'
-        for name, times in report.folds().items()
-    ]
-
-
-def unsafe(found, told, climbed):
-    report = found.report
-    found.verdict, found.line = 'UNSAFE', found.line_of(report.line)
-    found.column = found.source.first_column(found.line)
-    found.message = report.fault_text
-    found.program = read_program(found.text)
-    if report.path is None:
-        report.path = path_by_run(climbed.program, climbed.file, told.words, report.choices)
-    if report.path is not None:
-        try:
-            found.steps = paths.read_path(report.path)
-        except (ValueError, IndexError):
-            found.sentences.append('the path does not read')
-        for step in found.steps:
-            step.line = found.line_of(step.line)
-        found.depths = paths.depths(found.steps, found.program)
-        sentence, place = blame.told(found.steps, found.program, report.fault)
-        found.bad = list(place) if place else None
-        if sentence:
-            found.sentences.append(sentence)
-    choices = f'on the choices {report.choices}' if report.choices else 'without a choice'
-    found.sentences.append(f'the run meets it {choices}, in step {report.step}')
-    if report.path is None:
-        found.sentences += words_of_choices(climbed.program, climbed.file, told.words, report.choices)
-        found.sentences.append('the values and the path are left out: this program has no option --path')
-
-
-def unknown(found, told, climbed):
-    report = found.report
-    found.verdict = 'UNKNOWN'
-    there, named = climbed.there, {it[0] for it in told.words}
-    found.growth = grown = ladders.growth(report.exploration)
-    kept = report.exploration.count if report.exploration else 0
-    if report.verdict == 'UNKNOWN budget':
-        found.message = (
-            f'neither a fault nor safety was found: {kept} abstract '
-            'states are kept, as many as may be, and more are wanted'
-        )
-        if grown:
-            found.sentences.append(
-                f'roots at loop heads: {grown.first:.1f} on average in the first quarter of the states there, '
-                f'{grown.last:.1f} in the last: they {"grow" if grown.grows() else "do not grow"}'
-            )
-            found.help.append(grow_help(there) if grown.grows() else 'more states: --steps 20000')
-        else:
-            found.help.append('more states: --steps 20000')
-    else:
-        found.line = found.line_of(report.line)
-        found.column = found.source.first_column(found.line)
-        found.message = (
-            f'an abstract trace leads to {report.fault_text} here, but the run on its choices meets no fault'
-        )
-        found.sentences.append(
-            'states were joined at a loop head, and what that added leads to the fault'
-            + (
-                f'; the trace leaves what the program does at its state {report.leaves}'
-                if (report.leaves or '-').isdecimal()
-                else ''
-            )
-        )
-        found.help.append(
-            'join less: '
-            + ('--max-height 4' if '--max-height' in there else '--height 2, up to --height 4')
-            + ('; and without --boxes, which may fold what should stay apart' if '--boxes' in named else '')
-        )
-    if report.exploration and report.exploration.boxes:
-        found.sentences.extend(box_sentences(report.exploration))
-
-
-def grow_help(there):
-    ways = [it for it, option in (('--learn 4', '--learn'), ('--join 2000', '--join')) if option in there]
-    return 'a box is wanted, which stands for what the loop adds each time (docs/USING.md)' + (
-        ', or ' + ' or '.join(ways) if ways else ''
-    )
-
-
-VERDICTS = {'SAFE': safe, 'UNSAFE': unsafe, 'UNKNOWN': unknown}
 
 
 def worst(statuses):

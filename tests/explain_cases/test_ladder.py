@@ -1,4 +1,6 @@
 """The ladder: which words are tried, which are passed over, and what is said."""
+import os
+
 from .harness import BUILT, Case, EXAMPLES, OLD, SAFE, answer, needs_built, states
 
 TEXT = (
@@ -46,6 +48,7 @@ class Ladder(Case):
             'no step decided it: the words as they are; --steps 200 --learn 4 --join 2000; --join 20000\n', out
         )
         self.assertIn('passed over: --steps 20000, since the roots at loop heads grow', out)
+        self.assertIn('adds each time (docs/USING.md)\n', out)
         self.assertIn('passed over: --max-height 4, since a greater height helps only where a trace was found', out)
 
     def test_more_states_where_they_do_not(self):
@@ -64,6 +67,24 @@ class Ladder(Case):
         status, out, calls = self.climb(answer('--height', '3', out=SAFE), answer(status=3, out=TRACE), usage=OLD)
         self.assertEqual((status, calls), (0, [[], ['--height', '2'], ['--height', '3']]))
         self.assertIn('decided by step 3: --height 3', out)
+
+    def test_what_was_tried_is_not_advised(self):
+        _, out, _ = self.climb(answer(status=3, out=TRACE))
+        self.assertNotIn('join less', out)
+        _, out, _ = self.climb(answer(status=3, out=TRACE), words=('--once',))
+        self.assertIn('  try: join less: --max-height 4\n', out)
+        _, out, _ = self.climb(answer(status=3, out=STAYS), usage=OLD)
+        self.assertIn('  try: more states: --steps 100000\n', out)
+        _, out, _ = self.climb(answer(status=3, out=TRACE), words=('--once', '--boxes', 'b.box'))
+        self.assertIn('  try: without --boxes, which may fold what should stay apart\n', out)
+
+    def test_a_pipe_is_read_once(self):
+        os.mkfifo(self.folder / 'pipe.c')
+        self.answers(answer(status=3, out=STAYS))
+        status, out, _ = self.verify('pipe.c')
+        self.assertEqual((status, len(self.calls())), (3, 1))
+        self.answers(answer('verify', status=1, out='UNSAFE\nfault 6 leak\nline 4\nstep 2\nchoices -\n'))
+        self.assertEqual(self.verify('pipe.c')[1].split('\n')[0], 'pipe.c:4: error: leak')
 
     def test_it_is_left_out(self):
         for words in (('--once',), ('--steps', '9'), ('--learn', '1'), ('--join', '5')):

@@ -149,6 +149,28 @@ class Statuses(Case):
             time.sleep(0.1)
         self.assertEqual(left, [])
 
+    def test_it_ends_all_that_it_began(self):
+        self.answers(answer(wait=97))
+        names = [self.write(f'{at}.c', 'int main(void) { }\n') for at in range(4)]
+        run = subprocess.Popen(
+            [sys.executable, str(EXPLAIN), 'verify', *names, '--jobs', '3'],
+            cwd=self.folder,
+            stdout=subprocess.PIPE,
+            stderr=subprocess.PIPE,
+            env={**os.environ, **self.around(None, {})},
+        )
+        while len(self.calls()) < 2:
+            time.sleep(0.05)
+        run.send_signal(signal.SIGINT)
+        self.assertNotIn(b'Traceback', run.communicate(timeout=60)[1])
+        self.assertEqual(run.returncode, 130)
+        for _ in range(100):
+            left = running(str(self.folder))
+            if not left:
+                break
+            time.sleep(0.1)
+        self.assertEqual(left, [])
+
     @needs_built
     def test_a_built_program(self):
         for name, status in (('list', 0), ('list_lost', 1), ('double_free', 1)):
