@@ -23,6 +23,7 @@ function start() {
   for (const text of facts.help) byId('sentences').append(made('li', {}, 'try: ' + text));
   for (const text of facts.ladder || []) byId('sentences').append(made('li', {class: 'quiet'}, text));
   const clicked = facts.steps ? startSteps() : facts.states ? startStates() : null;
+  if (!clicked) byId('right').append(made('p', {class: 'quiet'}, 'There is no picture of this answer.'));
   drawSource(clicked);
   if (facts.line) light(facts.line);
   if (facts.steps) showStep(facts.steps.length);
