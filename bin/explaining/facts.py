@@ -6,13 +6,20 @@ from .paths import change_words
 
 def write(out, found, status):
     """Writes the facts of each file into one JSON file."""
-    text = json.dumps({'status': status, 'files': [facts(it) for it in found]}, ensure_ascii=False, indent=1)
+    write_json(out, {'status': status, 'files': [facts(it) for it in found]})
+
+
+def write_json(out, value):
+    """Writes a value; names that are not UTF-8 are written by escapes."""
+    text = json.dumps(value, ensure_ascii=False, indent=1)
+    if any('\ud800' <= it <= '\udfff' for it in text):
+        text = json.dumps(value, indent=1)
     write_text(out, text + '\n')
 
 
 def write_text(out, text):
     """Writes a text into a file of this name: whole, or not at all where it is a plain file."""
-    data = text.encode('utf-8', 'surrogateescape' if is_escaped(text) else 'strict')
+    data = text.encode('utf-8', 'replace')
     if os.path.exists(out) and not os.path.isfile(out):
         with open(out, 'wb') as file:
             file.write(data)
@@ -28,10 +35,6 @@ def write_text(out, text):
         except OSError:
             pass
         raise
-
-
-def is_escaped(text):
-    return any('\ud800' <= it <= '\udfff' for it in text) if not text.isascii() else False
 
 
 def facts(found):

@@ -17,6 +17,9 @@ def complain(text):
 
 
 def main(arguments):
+    for stream in (sys.stdout, sys.stderr):
+        if hasattr(stream, 'reconfigure'):
+            stream.reconfigure(errors='replace')
     if arguments in (['--help'], ['-h'], ['verify', '--help'], ['verify', '-h']):
         print(HELP)
         return 0

@@ -1,7 +1,7 @@
 """The answer as SARIF 2.1.0."""
-import json, os, urllib.parse
+import os, urllib.parse
 
-from .facts import write_text
+from .facts import write_json
 from .program import version
 from .rules import FAULTS, RULES
 from .terminal import notes
@@ -16,7 +16,7 @@ OTHERS = {
 
 
 def write(out, found, status):
-    write_text(out, json.dumps(log(found, status), ensure_ascii=False, indent=1) + '\n')
+    write_json(out, log(found, status))
 
 
 def log(found, status):

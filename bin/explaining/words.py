@@ -1,4 +1,5 @@
 """The words of bin/explain: its own options, and those that it hands on to `forester verify`."""
+import os
 from typing import NamedTuple, Optional
 
 USAGE = '''usage: bin/explain verify FILE.. [options of verify] [--html OUT] [--sarif OUT] [--json OUT] [--all-steps]
@@ -87,12 +88,31 @@ def read_words(words):
             raise Misused(f'{word} is no option of bin/explain verify')
     if not files:
         raise Misused('FILE is missing')
+    refuse_overwriting(files, options, outs)
     jobs = 1
     if len(files) > 1:
         jobs = number('--jobs', next((it[1] for it in options if it[0] == '--jobs'), '1'), 64)
         options = [it for it in options if it[0] != '--jobs']
     seconds = number('--seconds', own['--seconds'], 10_000_000) if '--seconds' in own else None
     return Words(files, options, outs, '--all-steps' in own, '--once' in own, seconds, jobs, '--adapt' in own)
+
+
+def refuse_overwriting(files, options, outs):
+    """No OUT is a file that is read, and no two are one."""
+    read = [*files, *(it[1] for it in options if it[0] == '--boxes')]
+    named = list(outs.items())
+    for at, (name, out) in enumerate(named):
+        if any(is_same(out, it) for it in read):
+            raise Misused(f'{name} {out} would overwrite a file that is read')
+        if any(is_same(out, it) for _, it in named[:at]):
+            raise Misused(f'{name} {out} is named twice')
+
+
+def is_same(one, other):
+    try:
+        return os.path.samefile(one, other) and os.path.isfile(one)
+    except OSError:
+        return os.path.abspath(one) == os.path.abspath(other)
 
 
 def number(name, text, most):

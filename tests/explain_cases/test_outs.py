@@ -151,6 +151,22 @@ class Unwritten(Case):
                     self.assertTrue(text.startswith('file.c:12: error: double free'))
         self.assertEqual(sorted(os.listdir(self.folder / 'folder')), [])
 
+    def test_files_that_are_read_are_not_overwritten(self):
+        self.write('file.c', CUT)
+        os.symlink('file.c', self.folder / 'other.c')
+        self.answers(answer('verify', out=SAFE))
+        for words in (
+            ('--json', 'file.c'),
+            ('--html', './file.c'),
+            ('--sarif', 'other.c'),
+            ('--boxes', 'b.box', '--json', 'b.box'),
+            ('--json', 'a', '--sarif', './a'),
+        ):
+            with self.subTest(words):
+                self.assertEqual(self.verify('file.c', *words)[0], 2)
+        self.assertEqual((self.folder / 'file.c').read_text(), CUT)
+        self.assertEqual(self.verify('file.c', '--json', '/dev/null', '--sarif', '/dev/null')[0], 0)
+
     def test_no_dot(self):
         self.write('file.c', CUT)
         self.answers(answer('verify', out=SAFE), usage=OLD)

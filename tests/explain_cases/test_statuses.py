@@ -1,5 +1,5 @@
 """Each status, in words; the words of the command; many files."""
-import os, pathlib, signal, subprocess, sys, time
+import json, os, pathlib, signal, subprocess, sys, time
 
 from .harness import BUILT, Case, EXAMPLES, EXPLAIN, OLD, SAFE, TOP, answer, needs_built
 
@@ -110,6 +110,19 @@ class Statuses(Case):
         self.write('-x.c', 'int main(void) { }\n')
         self.answers(answer('--height', '2', '--', '-x.c', out=SAFE))
         self.assertEqual(self.verify('--height=2', '--', '-x.c')[0], 0)
+
+    def test_names_and_streams_that_are_not_utf8(self):
+        self.answers(answer(status=2, notes=OLD))
+        status, out, notes = self.command('verify', b'\xff.c', '--json', 'out.json', '--sarif', 'out.sarif')
+        self.assertEqual((status, notes), (2, ''))
+        self.assertTrue(out.startswith('\ufffd.c: error: '))
+        self.assertEqual(json.loads((self.folder / 'out.json').read_bytes())['files'][0]['file'], '\udcff.c')
+        self.answers(answer(status=5, notes='read fault\n'))
+        self.assertEqual(self.command('verify', b'\xff.c')[0], 5)
+        self.write('file.c', '// \u00e9\n')
+        self.answers(answer(status=1, out=UNSAFE))
+        status, out, _ = self.command('verify', 'file.c', PYTHONIOENCODING='ascii', LC_ALL='C', PYTHONUTF8='0')
+        self.assertEqual((status, out.split('\n')[1]), (1, '     1 | // ?'))
 
     def test_what_is_said_while_the_program_is_built(self):
         self.answers(answer(out=SAFE, notes='bin/build: 1 of 2 crates are proved\n'))
