@@ -4,6 +4,8 @@ from typing import NamedTuple, Optional
 
 TOP = pathlib.Path(__file__).resolve().parent.parent.parent
 TIMED_OUT, NOT_STARTED = 124, 125
+# what was said while the program was built
+SAID = set()
 
 
 class Answer(NamedTuple):
@@ -26,11 +28,12 @@ class Stopped(Exception):
 
 
 class Program:
-    """The program that the variable FORESTER names, with words before its own if it likes, or else bin/forester."""
+    """The program that the variable FORESTER names, with words before its own if it likes, or else bin/forester: where
+    nothing is built yet, as it runs from the sources, which says that nothing of it is proved."""
 
     def __init__(self, environment=os.environ):
         named = environment.get('FORESTER')
-        self.command = shlex.split(named) if named else [str(TOP / 'bin' / 'forester')]
+        self.command = shlex.split(named) if named else [str(TOP / 'bin' / 'forester'), *unproved()]
         self.usage = None
         self.running, self.lock, self.starting, self.stopped = set(), threading.RLock(), 0, None
 
@@ -123,12 +126,23 @@ class Program:
                 end(run)
 
 
+def unproved():
+    """The word that runs the sources, where no program is built from them."""
+    try:
+        is_built = subprocess.run([TOP / 'bin' / 'build', '--is-built'], stdin=subprocess.DEVNULL).returncode == 0
+    except OSError:
+        is_built = True
+    return [] if is_built else ['--unproved']
+
+
 def read(stream, text):
-    """Reads a stream to its end, and shows at once what is said while the program is built."""
+    """Reads a stream to its end, and shows at once, and once, what is said while the program is built."""
     for line in iter(stream.readline, b''):
         if line.startswith(b'bin/'):
-            sys.stderr.write(line.decode('utf-8', 'replace'))
-            sys.stderr.flush()
+            if line not in SAID:
+                SAID.add(line)
+                sys.stderr.write(line.decode('utf-8', 'replace'))
+                sys.stderr.flush()
         else:
             text.append(line)
 
