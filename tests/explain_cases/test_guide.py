@@ -14,7 +14,9 @@ class Guide(Case):
     def test_what_it_shows(self):
         shutil.copytree(EXAMPLES, self.folder / 'examples')
         for text in blocks('c'):
-            self.write(re.match(r'// (\S+)\n', text)[1], text)
+            named = re.match(r'// (\S+)\n', text)
+            if named:
+                self.write(named[1], text)
         shown = blocks('console')
         self.assertGreater(len(shown), 5)
         for block in shown:
