@@ -75,9 +75,11 @@ class Program:
         return Answer(words, status, out, notes, ended_by, time.monotonic() - begun)
 
     def start(self, words):
-        """Starts it; a signal that comes meanwhile is heard when the run is known, so that it is ended too."""
+        """Starts it; a signal that comes meanwhile is heard when the run is known, so that it is ended too. Signals come
+        to the main thread, so that a start in another one keeps none of them."""
+        is_main = threading.current_thread() is threading.main_thread()
         with self.lock:
-            self.starting += 1
+            self.starting += is_main
         try:
             run = subprocess.Popen(
                 [*self.command, *words],
@@ -92,7 +94,7 @@ class Program:
             raise Unstarted(f'{self.command[0]}: {failed.strerror}') from failed
         finally:
             with self.lock:
-                self.starting -= 1
+                self.starting -= is_main
         if self.stopped:
             end(run)
             raise Stopped(self.stopped)
